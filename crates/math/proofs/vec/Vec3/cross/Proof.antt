@@ -1,0 +1,12 @@
+-- `math::vec::Vec3::cross` meets its contract. Assumes nothing.
+use mathlib.Core.Path.{refl}
+use Rattle.math.specs.Vec.{cross}
+use Rattle.math.proofs.vec.Vec3.cross.Statement.{statement}
+use Rattle.math.proofs.vec.Vec3.cross.Tie as tie
+
+returns : tie.Need-returns
+unfolding cross
+returns c = refl
+
+pub cross-spec : {M : Type 1} → statement M
+cross-spec = tie.close (tie.spec returns)

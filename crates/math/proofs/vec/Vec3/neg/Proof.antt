@@ -1,0 +1,12 @@
+-- `math::vec::Vec3::neg` meets its contract. Assumes nothing.
+use mathlib.Core.Path.{refl}
+use Rattle.math.specs.Vec.{negated}
+use Rattle.math.proofs.vec.Vec3.neg.Statement.{statement}
+use Rattle.math.proofs.vec.Vec3.neg.Tie as tie
+
+returns : tie.Need-returns
+unfolding negated
+returns c = refl
+
+pub neg-spec : {M : Type 1} → statement M
+neg-spec = tie.close (tie.spec returns)

@@ -1,0 +1,11 @@
+pub mod Floats
+pub mod Constants
+pub mod Choose
+pub mod ChooseLaws
+pub mod Root
+pub mod Vec
+pub mod Quat
+pub mod Mat
+pub mod Pose
+pub mod Laws
+pub mod Cases
