@@ -3,7 +3,6 @@ use lib.Ieee.{Float, binary32, add, sub, mul, div}
 
 infixl 65 _⊕_ _⊖_
 infixl 70 _⊗_ _⊘_
-
 abbrev pub _⊕_ : Float → Float → Float
 a ⊕ b = add binary32 a b
 

@@ -20,7 +20,6 @@ matrix q =
     }
 
 infixl 70 _*m_
-
 -- applied in turn from the left
 unfoldable pub _*m_ : Mat3 → Vec3 → Vec3
 m *m v = m .«x_axis» *v v .x +v m .«y_axis» *v v .y +v m .«z_axis» *v v .z

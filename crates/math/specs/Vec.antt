@@ -22,7 +22,6 @@ zero3 = vec3 zeroF zeroF zeroF
 
 infixl 65 _+v_ _-v_
 infixl 70 _*v_
-
 unfoldable pub _+v_ : Vec3 → Vec3 → Vec3
 a +v b = vec3 (a .x ⊕ b .x) (a .y ⊕ b .y) (a .z ⊕ b .z)
 

@@ -2,6 +2,7 @@
 
 // `f32::MAX` and `f32::MIN`.
 pub const LARGEST: f32 = 3.4028235e38;
+
 pub const LOWEST: f32 = -3.4028235e38;
 
 // The factor of the matching threshold.
@@ -11,4 +12,5 @@ pub const TENTH: f32 = 0.1;
 pub const TINY: f32 = 1e-6;
 
 pub const HALF: f32 = 0.5;
+
 pub const TWO: f32 = 2.0;
