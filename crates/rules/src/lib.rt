@@ -1,0 +1,1 @@
+// The rules of the specification as plain definitions: see specs/. No code.
