@@ -1,0 +1,4 @@
+pub mod Features
+pub mod Points
+pub mod Refusals
+pub mod Views

@@ -1,0 +1,7 @@
+// Contact ids, features, points and manifolds by value; matching and pruning of points. From avian's collision/contact_types.
+pub mod contact_id;
+pub mod contact_manifold;
+pub mod contact_point;
+pub mod feature_id;
+pub mod limits;
+pub mod refusal;

@@ -1,0 +1,14 @@
+-- The limits of document 01, in one place. Definitions only.
+use Prim.Native.Nat.{ℕ}
+
+-- points of a stored manifold
+abbrev pub storedPoints : ℕ
+storedPoints = 4
+
+-- points of a proposed manifold
+abbrev pub proposedPoints : ℕ
+proposedPoints = 32
+
+-- manifolds of a pair
+abbrev pub pairManifolds : ℕ
+pairManifolds = 6
