@@ -1,5 +1,6 @@
 pub mod Limits
 pub mod Records
+pub mod Graph
 pub mod Numbers
 pub mod NumberLaws
 pub mod Matching
