@@ -24,7 +24,7 @@ returns-4 : tie.Need-returns-4
 returns-4 c =
     let at = c .before .before .before .before in
     let e = at .if3 .left ∙ at .before .graph-length .ensures in
-    lay-out-kept _ _ (lay-out-done _ _ (search needs) (search needs) e) (laid-out (at .before .before .before .before .before .before .args .graph .now) _ e (c .before .before .clear .ensures))
+    lay-out-kept _ _ (lay-out-done _ _ (search needs) (search needs) e) (laid-out (at .before .before .before .before .before .args .graph .now) _ e (c .before .before .clear .ensures))
 
 pub lay-out-spec : {M : Type 1} → statement M
 lay-out-spec = tie.close (tie.spec returns returns-2 (search needs) returns-3 (search needs) (search needs) same-length returns-4)
