@@ -77,7 +77,7 @@ newIdOf g = cond (eqb (freeCount g) 0) (givenOf g) (freeAt g (freeCount g - 1))
 unfoldable pub addedWords : List ℕ → Request → List ℕ
 addedWords g a =
     put (put (put g (contactAt g (newIdOf g)) (contactWords (listedCount g) (newPair (newIdOf g) (additionOf a))))
-        (place.listPlace + listedCount g) (newIdOf g ∷ []))
+    (place.listPlace + listedCount g) (newIdOf g ∷ []))
     place.givenPlace (cond (eqb (freeCount g) 0) (givenOf g + 1) (givenOf g) ∷ (listedCount g + 1) ∷ (freeCount g - 1) ∷ [])
 
 -- ---- look up and remove
@@ -95,5 +95,5 @@ unfoldable pub removedWords : List ℕ → ℕ → List ℕ
 removedWords g id =
     let last = listedAt g (listedCount g - 1) in
     put (put (put (put g (place.listPlace + placeOf g id) (last ∷ [])) (contactAt g last + record-place.pairIndexPlace) (placeOf g id ∷ []))
-        (place.freePlace (capacityOf g) + freeCount g) (id ∷ []))
+    (place.freePlace (capacityOf g) + freeCount g) (id ∷ []))
     place.listedPlace ((listedCount g - 1) ∷ (freeCount g + 1) ∷ [])

@@ -7,4 +7,10 @@ pub mod Matching
 pub mod MatchingLaws
 pub mod Pruning
 pub mod PruningLaws
+pub mod Inputs
+pub mod Sides
+pub mod Recycling
+pub mod Surface
+pub mod Filtering
+pub mod Update
 pub mod Cases
