@@ -1,6 +1,10 @@
 pub mod Layout
 pub mod Recorded
 pub mod Range
+pub mod Pigeonhole
+pub mod RangeLaws
+pub mod IdLaws
+pub mod RangeSteps
 pub mod Calls
 pub mod Promises
 pub mod Zeros
