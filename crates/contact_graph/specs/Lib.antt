@@ -9,3 +9,6 @@ pub mod Calls
 pub mod Promises
 pub mod Zeros
 pub mod LayOutLaws
+pub mod Effects
+pub mod FitsLaws
+pub mod AddKeeps
