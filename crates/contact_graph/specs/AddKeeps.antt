@@ -22,8 +22,15 @@ pub data NewId (g : List ℕ) (id m n : ℕ) : Type 0 where
   lowest : freeCount g ≡ 0 → id ≡ givenOf g → m ≡ givenOf g + 1 → n ≡ 0 → NewId g id m n
   freed : 0 < freeCount g → id ≡ freeAt g (freeCount g - 1) → m ≡ givenOf g → n ≡ freeCount g - 1 → NewId g id m n
 
-not-true : (b : Bool) → b ≡ false → not b ≡ true
+pub not-true : (b : Bool) → b ≡ false → not b ≡ true
 not-true b e = ap not e
+
+pub or-left : (a b : Bool) → a ≡ true → a || b ≡ true
+or-left a b q = rw q
+
+pub or-right : (a b : Bool) → b ≡ true → a || b ≡ true
+or-right true b q = refl
+or-right false b q = q
 
 module _ {g h words : List ℕ} {id m n : ℕ} (r : InRange g) (e : AddEffect g h words id m n) (new : NewId g id m n) (below : id < capacityOf g) (room : listedCount g < capacityOf g)
     (alone : stands g id ≡ false) (fits : contactFits h (contactAt h id) ≡ true)
@@ -106,7 +113,7 @@ module _ {g h words : List ℕ} {id m n : ℕ} (r : InRange g) (e : AddEffect g 
   fits-kept =
       every-all _ (listedCount h)
       (λ p l. elim (place-cases p l) [
-        | inl q ↦ fits-same g (contactAt g (listedAt g p)) h (contactAt h (listedAt h p)) (record-kept p q) ∙ fits-at g p (holds _ (r .contacts)) q
+        | inl q ↦ fits-same g (contactAt g (listedAt g p)) h (contactAt h (listedAt h p)) (λ o a _. record-kept p q o a) ∙ fits-at g p (holds _ (r .contacts)) q
         | inr q ↦ ap (λ (i : ℕ). contactFits h (contactAt h i)) (new-at p q) ∙ fits
       ])
 
@@ -163,13 +170,6 @@ module _ {g h words : List ℕ} {id m n : ℕ} (r : InRange g) (e : AddEffect g 
       every-all _ (freeCount h)
       (λ k l. not-true _
       (ap (stands h) (free-word k l) ∙ stands-no (freeAt g k) (free-not-standing r k (omega (arith, e .freed, free-less))) (free-other k l)))
-
-  or-left : (a b : Bool) → a ≡ true → a || b ≡ true
-  or-left a b q = rw q
-
-  or-right : (a b : Bool) → b ≡ true → a || b ≡ true
-  or-right true b q = refl
-  or-right false b q = q
 
   known-from : (i : ℕ) → (stands g i ≡ true) ⊎ (isFree g i ≡ true) → stands h i || isFree h i ≡ true
   known-from i (inl s) = or-left (stands h i) (isFree h i) (stands-still i s)

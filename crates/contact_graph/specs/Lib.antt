@@ -12,3 +12,4 @@ pub mod LayOutLaws
 pub mod Effects
 pub mod FitsLaws
 pub mod AddKeeps
+pub mod RemoveKeeps
