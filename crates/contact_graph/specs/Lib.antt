@@ -13,3 +13,4 @@ pub mod Effects
 pub mod FitsLaws
 pub mod AddKeeps
 pub mod RemoveKeeps
+pub mod LaidOutLaws
