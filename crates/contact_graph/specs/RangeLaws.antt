@@ -26,11 +26,11 @@ holds false t = absurd t
 pub shown : {b : Bool} → b ≡ true → T b
 shown e = subst T (sym e) tt
 
-first-of : (a b : Bool) → a && b ≡ true → a ≡ true
+pub first-of : (a b : Bool) → a && b ≡ true → a ≡ true
 first-of true b e = refl
 first-of false b e = e
 
-rest-of : (a b : Bool) → a && b ≡ true → b ≡ true
+pub rest-of : (a b : Bool) → a && b ≡ true → b ≡ true
 rest-of true b e = e
 rest-of false b e = absurd (true≢false (sym e))
 
@@ -51,6 +51,11 @@ right-length {g} e =
       most = leb-true (capacityOf g) mostContacts (first-of b c (rest-of a (b && c) e));
       size = eqb-true (length g) (place.graphLength (capacityOf g)) (rest-of b c (rest-of a (b && c) e));
     }
+
+-- the record of a contact begins at r, and lies in the graph
+pub record RecordAt (g : List ℕ) (id r : ℕ) : Type 0 where
+  pub place : r ≡ contactAt g id
+  pub room : r + record-place.contactSize ≤ length g
 
 -- ---- refusal 2, as one test and as a record
 pub in-range : {g : List ℕ} → T (inRange g) → InRange g

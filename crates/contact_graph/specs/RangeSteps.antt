@@ -1,23 +1,53 @@
 -- What the range test's functions pass to each other, and the turns of its loops. Assumes nothing.
 use mathlib.Core.Path.{_≡_, refl, sym, ap, ap₂, subst, _∙_}
-use Prim.Native.Nat.{ℕ, zero, suc, _+_, _*_, _≤_, _<_, min, max}
+use Prim.Native.Nat.{ℕ, zero, suc, _+_, _*_, _/_, _%_, _≤_, _<_, min, max}
 use native.Mathlib.Numerals.{add-one}
 use native.Mathlib.Omega.{arith}
-use mathlib.Core.Bool.{Bool, true, false, cond, not, _&&_, _||_, or-true, or-false, true≢false}
-use mathlib.Core.List.{List}
+use mathlib.Core.Bool.{Bool, true, false, cond, not, _&&_, _||_, or-true, or-false, and-assoc, true≢false}
+use mathlib.Core.List.{List, [], _∷_}
 use mathlib.Core.Logic.{_⊎_, inl, inr}
-use borrow.Author.Tests.{ltb-true, ltb-false, eqb-true, eqb-false, eq-eqb, ne-eqb, not-false}
-use lib.Dec.{T, eqb, ltb}
+use borrow.Author.Tests.{ltb-true, ltb-false, eqb-true, eqb-false, lt-ltb, le-ltb, le-leb, lt-leb, eq-eqb, not-true, not-false}
+use lib.Dec.{T, eqb, ltb, leb}
 use lib.ListN.{length, getD}
 use Rattle.rules.specs.Limits.{colliders}
 use Rattle.rules.specs.Numbers.{every, any}
 use Rattle.rules.specs.NumberLaws.{every-same}
-use Rattle.data_structures.specs.BitVec.{bitAt, marked}
+use Rattle.data_structures.specs.BitVec.{bitOf, bitAt, marked}
 use Rattle.data_structures.specs.BitVecLaws.{bit-marked, length-marked}
+use Rattle.data_structures.specs.WordLaws.{bit-zero}
 use Rattle.words.specs.Words.{wordAt}
+use Rattle.contact_records.specs.Layout as record-place
 use Rattle.contact_graph.specs.Recorded.{capacityOf, givenOf, listedCount, freeCount, listedAt, freeAt, contactAt}
-use Rattle.contact_graph.specs.Range.{countsFit, listedGiven, namesBack, contactsFit, freeGiven, freeOnce, stands, isFree, givenKnown, sameColliders, samePair, pairsOnce}
-use Rattle.contact_graph.specs.RangeLaws.{RightLength, Counts, Fitting, given-at, freed-at, fits-at, fitting}
+use Rattle.contact_graph.specs.Range.{rightLength, countsFit, listedGiven, namesBack, contactsFit, freeGiven, freeOnce, stands, isFree, freeApart, givenKnown, sameColliders, samePair, pairsOnce, inRange}
+use Rattle.contact_graph.specs.RangeLaws.{holds, shown, first-of, rest-of, RightLength, RecordAt, Counts, right-length, counts-fit, indexAt, given-at, fits-at, stands-by-index, Fitting, fitting}
+
+-- ---- tests of what was read or asked, as a branch of the code gives them
+pub refused : {r t : Bool} → r ≡ t → not r ≡ true → t ≡ false
+refused {r} e h = sym e ∙ not-true r h
+
+pub passed : {r t : Bool} → r ≡ t → not r ≡ false → t ≡ true
+passed {r} e h = sym e ∙ not-false r h
+
+module _ {r n : ℕ} (e : r ≡ n) where
+  pub below : {m : ℕ} → r < m → ltb n m ≡ true
+  below {m} h = lt-ltb n m (omega arith)
+
+  pub not-below : {m : ℕ} → m ≤ r → ltb n m ≡ false
+  not-below {m} h = le-ltb n m (omega arith)
+
+  pub within : {m : ℕ} → r ≤ m → leb n m ≡ true
+  within {m} h = le-leb n m (omega arith)
+
+  pub above : {m : ℕ} → m < r → leb n m ≡ false
+  above {m} h = lt-leb n m (omega arith)
+
+-- a loop through the numbers below n that comes to its end
+pub every-done : (test : ℕ → Bool) (n : ℕ) {k : ℕ} → every test k ≡ true → k ≤ n → n ≤ k → every test n ≡ true
+every-done test n {k} e h l = subst (λ (m : ℕ). every test m ≡ true) (let z : k ≡ n = omega arith in z) e
+
+pub every-none : (test : ℕ → Bool) → every test 0 ≡ true
+unfolding every
+every-none test = refl
 
 -- ---- what is known after the first conditions
 -- lengths and counts
@@ -37,6 +67,33 @@ pub record Standing (g : List ℕ) : Type 0 where
 
 pub below-at : {g : List ℕ} (p : ℕ) → ListedGiven g → p < listedCount g → listedAt g p < capacityOf g
 below-at {g} p l h = omega (arith, given-at g p (l .given) h, l .counted .counts .given)
+
+pub counted : {g : List ℕ} → rightLength g ≡ true → countsFit g ≡ true → Counted g
+counted e f = record { right = right-length e; counts = counts-fit f }
+
+-- ---- what is read of a listed contact
+module _ (g : List ℕ) {id at : ℕ} (r : RecordAt g id at) where
+  pub index-of : {i : ℕ} → i ≡ wordAt g (at + record-place.pairIndexPlace) → i ≡ indexAt g id
+  index-of e = e ∙ ap (λ (n : ℕ). wordAt g (n + record-place.pairIndexPlace)) (r .place)
+
+  module _ (p : ℕ) (e : id ≡ listedAt g p) where
+    pub place-read : at ≡ contactAt g (listedAt g p)
+    place-read = r .place ∙ ap (contactAt g) e
+
+    pub index-read : {i : ℕ} → i ≡ wordAt g (at + record-place.pairIndexPlace) → i ≡ indexAt g (listedAt g p)
+    index-read f = index-of f ∙ ap (indexAt g) e
+
+    pub colliders-read : contactsFit g ≡ true → p < listedCount g → (wordAt g at < colliders) × (wordAt g (at + 1) < colliders)
+    colliders-read c h =
+        let f = fitting g (contactAt g (listedAt g p)) (fits-at g p c h) in
+        subst (λ (n : ℕ). (wordAt g n < colliders) × (wordAt g (n + 1) < colliders)) (sym place-read) (f .collider1, f .collider2)
+
+-- an id stands, by its record
+pub standing-past : (g : List ℕ) (id : ℕ) {i l : ℕ} → namesBack g ≡ true → i ≡ indexAt g id → l ≡ listedCount g → l ≤ i → false ≡ stands g id
+standing-past g id b p q h = rw (stands-by-index g id b, le-ltb (indexAt g id) (listedCount g) (omega arith))
+
+pub standing-read : (g : List ℕ) (id : ℕ) {i l e : ℕ} → namesBack g ≡ true → i ≡ indexAt g id → l ≡ listedCount g → i < l → e ≡ listedAt g i → eqb e id ≡ stands g id
+standing-read g id b p q h r = rw (stands-by-index g id b, lt-ltb (indexAt g id) (listedCount g) (omega arith), ← p, ← r)
 
 -- ---- bits that mark what a row of numbers had
 pub record Marked (f : ℕ → ℕ) (k : ℕ) (bits : List ℕ) : Type 0 where
@@ -70,11 +127,54 @@ every-not t (suc n) = ap (λ (b : Bool). b && not (t n)) (every-not t n) ∙ tur
 pub fresh : (f : ℕ → ℕ) (k : ℕ) {bits : List ℕ} → Marked f k bits → every (λ j. not (eqb (f j) (f k))) k ≡ not (bitAt bits (f k))
 fresh f k m = every-not (λ j. eqb (f j) (f k)) k ∙ ap not (sym (m .each (f k)))
 
--- ---- free ids: those passed are marked
+-- a turn of a loop that asks the bit of the number at k, and sets it
+pub seen : (f : ℕ → ℕ) (k : ℕ) {bits : List ℕ} {n : ℕ} {r : Bool} → Marked f k bits → n ≡ f k → r ≡ bitAt bits n → every (λ j. not (eqb (f j) (f k))) k ≡ not r
+seen f k {bits} m e h = fresh f k m ∙ ap not (ap (bitAt bits) (sym e) ∙ sym h)
+
+pub marks-next : (f : ℕ → ℕ) (k : ℕ) {bits after : List ℕ} {n : ℕ} → Marked f k bits → n ≡ f k → n < 64 * length bits → after ≡ marked bits n → Marked f (k + 1) after
+marks-next f k {bits} {after} {n} m e h s =
+    subst (Marked f (k + 1)) (sym (s ∙ ap (marked bits) e)) (marked-next f k m (omega arith))
+
+pub marks-size : (bits : List ℕ) (n : ℕ) {after : List ℕ} {m : ℕ} → after ≡ marked bits n → length bits ≡ m → length after ≡ m
+marks-size bits n e h = ap length e ∙ length-marked bits n ∙ h
+
+-- words that are all 0
+unfoldable pub allZero : List ℕ → Bool
+allZero [] = true
+allZero (w ∷ ws) = eqb w 0 && allZero ws
+
+zero-at : (ws : List ℕ) (k : ℕ) → T (allZero ws) → getD ws k 0 ≡ 0
+unfolding allZero
+zero-at [] k t = refl
+zero-at (w ∷ ws) zero t = eqb-true w 0 (first-of (eqb w 0) (allZero ws) (holds (eqb w 0 && allZero ws) t))
+zero-at (w ∷ ws) (suc k) t = zero-at ws k (shown (rest-of (eqb w 0) (allZero ws) (holds (eqb w 0 && allZero ws) t)))
+
+pub unmarked : (ws : List ℕ) → T (allZero ws) → Unmarked ws
+unfolding bitAt
+unmarked ws t = record { each = λ n. ap (λ (w : ℕ). bitOf w (n % 64)) (zero-at ws (n / 64) t) ∙ bit-zero (n % 64) }
+
+-- ---- free ids
+-- the marks are the free ids
+pub record FreeTaken (g bits : List ℕ) : Type 0 where
+  pub each : (id : ℕ) → bitAt bits id ≡ isFree g id
+
+-- what `free_once` leaves
 pub record FreeMarked (g bits : List ℕ) (r : Bool) : Type 0 where
   pub answer : r ≡ freeOnce g
   pub size : length bits ≡ 4
-  pub marks : r ≡ true → (id : ℕ) → bitAt bits id ≡ isFree g id
+  pub marks : r ≡ true → FreeTaken g bits
+
+pub free-taken : (g : List ℕ) {k : ℕ} {bits : List ℕ} → Marked (freeAt g) k bits → k ≡ freeCount g → FreeTaken g bits
+unfolding isFree
+free-taken g m e = record { each = λ id. m .each id ∙ ap (any (λ j. eqb (freeAt g j) id)) e }
+
+-- the conditions on free ids together
+unfoldable pub freeFits : List ℕ → Bool
+freeFits g = freeOnce g && (freeApart g && givenKnown g)
+
+pub in-range-turns : (g : List ℕ) → inRange g ≡ (countsFit g && (listedGiven g && (namesBack g && (contactsFit g && (freeGiven g && (freeFits g && pairsOnce g))))))
+unfolding inRange freeFits
+in-range-turns g = rw (and-assoc (freeOnce g) (freeApart g && givenKnown g) (pairsOnce g), and-assoc (freeApart g) (givenKnown g) (pairsOnce g))
 
 -- ---- pairs, by number: the lower collider times 256, and the higher
 abbrev pub pairNumber : ℕ → ℕ → ℕ
@@ -164,3 +264,14 @@ pub pair-fresh : (g : List ℕ) (p : ℕ) {bits : List ℕ} → contactsFit g �
 pair-fresh g p e h m =
     every-same (λ q. not (samePair g q p)) (λ q. not (eqb (placeNumber g q) (placeNumber g p))) p (λ q l. ap not (place-same g q p e (omega arith) h))
     ∙ fresh (placeNumber g) p m
+
+pub number-read : (g : List ℕ) (p : ℕ) {id at n : ℕ} → RecordAt g id at → id ≡ listedAt g p → n ≡ pairNumber (wordAt g at) (wordAt g (at + 1)) → n ≡ placeNumber g p
+number-read g p r e h = h ∙ ap (λ (a : ℕ). pairNumber (wordAt g a) (wordAt g (a + 1))) (place-read g r p e)
+
+pub place-below : (g : List ℕ) (p : ℕ) → contactsFit g ≡ true → p < listedCount g → placeNumber g p < 65536
+place-below g p e h =
+    let a = fitting g (contactAt g (listedAt g p)) (fits-at g p e h) in
+    number-below (wordAt g (contactAt g (listedAt g p))) (wordAt g (contactAt g (listedAt g p) + 1)) (a .collider1) (a .collider2)
+
+pub pair-seen : (g : List ℕ) (p : ℕ) {bits : List ℕ} {n : ℕ} {r : Bool} → contactsFit g ≡ true → p < listedCount g → Marked (placeNumber g) p bits → n ≡ placeNumber g p → r ≡ bitAt bits n → every (λ q. not (samePair g q p)) p ≡ not r
+pair-seen g p {bits} e h m i s = pair-fresh g p e h m ∙ ap not (ap (bitAt bits) (sym i) ∙ sym s)
