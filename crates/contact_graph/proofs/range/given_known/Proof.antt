@@ -24,6 +24,9 @@ abbrev μ-loop : tie.MeasureT-loop
 loop-holds : tie.Need-loop-holds Inv-loop μ-loop
 loop-holds c = (search needs, every-none (test (c .before .before .before .args .graph .now)))
 
+is-known-requires : tie.Need-is-known-requires Inv-loop μ-loop
+is-known-requires c κs = search needs
+
 returns : tie.Need-returns Inv-loop μ-loop
 unfolding givenKnown
 returns c =
@@ -46,4 +49,4 @@ returns-2 c =
 
 pub given-known-spec : {M : Type 1} → statement M
 given-known-spec =
-    tie.close (tie.spec Inv-loop μ-loop (search needs) loop-holds (search needs) returns (search needs) (search needs) loop-again returns-2)
+    tie.close (tie.spec Inv-loop μ-loop (search needs) loop-holds is-known-requires returns (search needs) (search needs) loop-again returns-2)

@@ -1,8 +1,11 @@
 -- `contact_graph::range::is_known` meets its contract. Assumes nothing.
-use mathlib.Core.Path.{_≡_, sym, _∙_}
+use mathlib.Core.Path.{_≡_, _∙_}
 use borrow.Author.Needs.{needs}
 use Rattle.contact_graph.proofs.range.is_known.Statement.{statement}
 use Rattle.contact_graph.proofs.range.is_known.Tie as tie
+
+is-standing-requires : tie.Need-is-standing-requires
+is-standing-requires c κs = search needs
 
 returns : tie.Need-returns
 returns c = rw (← c .before .is-standing .ensures, c .if1 .taken)
@@ -14,4 +17,4 @@ returns-2 c =
 
 pub is-known-spec : {M : Type 1} → statement M
 is-known-spec =
-    tie.close (tie.spec (search needs) returns (search needs) returns-2)
+    tie.close (tie.spec is-standing-requires returns (search needs) returns-2)

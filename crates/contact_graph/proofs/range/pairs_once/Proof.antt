@@ -1,21 +1,19 @@
+-- `contact_graph::range::pairs_once` meets its contract. Assumes nothing.
+use mathlib.Core.Path.{refl}
+use Rattle.contact_graph.specs.RangeSteps.{allZero, unmarked}
 use borrow.Author.Needs.{needs}
 use Rattle.contact_graph.proofs.range.pairs_once.Statement.{statement}
 use Rattle.contact_graph.proofs.range.pairs_once.Tie as tie
-use Rattle.contact_graph.proofs.range.pairs_once.Reads as reads
-use Rattle.contact_graph.proofs.range.pairs_once.Lts as lts
-use Rattle.contact_graph.proofs.range.pairs_differ.Reads as pairs-differ-reads
 
--- src/range.rt:346:25
-slice-aggregate-pairs-differ : tie.Need-slice-aggregate-pairs-differ
-slice-aggregate-pairs-differ c = search needs
-
--- src/range.rt:346:5
 pairs-differ-requires : tie.Need-pairs-differ-requires
-pairs-differ-requires c κs = ?
+unfolding allZero
+pairs-differ-requires c κs =
+    let s = c .before .before in
+    (s .pre .0, s .pre .1, refl, unmarked _ tt)
 
--- src/range.rt:341:1
 returns : tie.Need-returns
 returns c = search needs
 
 pub pairs-once-spec : {M : Type 1} → statement M
-pairs-once-spec = tie.close (tie.spec slice-aggregate-pairs-differ pairs-differ-requires returns)
+pairs-once-spec =
+    tie.close (tie.spec (search needs) pairs-differ-requires returns)
