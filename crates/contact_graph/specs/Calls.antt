@@ -1,7 +1,7 @@
 -- Lay out, add, look up and remove: the answer and every word of the lent graph, in a refusal too. Definitions only.
 use Prim.Native.Nat.{ℕ, suc, _+_, _-_}
 use mathlib.Core.Path.{_≡_}
-use mathlib.Core.Bool.{Bool, true, cond, not, _&&_, _||_}
+use mathlib.Core.Bool.{Bool, true, false, cond, not, _&&_, _||_}
 use mathlib.Core.List.{List, [], _∷_}
 use mathlib.Core.Option.{Option, none, some}
 use lib.Dec.{eqb, ltb, leb}
@@ -19,6 +19,8 @@ use Rattle.contact_graph.specs.Layout as place
 use Rattle.contact_graph.specs.Recorded.{capacityOf, givenOf, listedCount, freeCount, listedAt, freeAt, contactAt}
 use Rattle.contact_graph.specs.Range.{isMark, sameColliders, rightLength, inRange, stands}
 use Rattle.contact_graph.specs.declared.call.Request.{Request}
+use Rattle.contact_graph.specs.declared.call.ContactEdge.{ContactEdge}
+use Rattle.contact_graph.specs.declared.call.OptionalBody.the-variants as body
 
 -- ---- lay out
 -- 1: the capacity is not 1 to 256, or the length is not the one for it
@@ -54,6 +56,20 @@ additionOf a =
       contactEvents = eqb (a .«contact_events») 1;
       modifyContacts = eqb (a .«modify_contacts») 1;
       speculative = a .«speculative_distance»;
+    }
+
+-- `ContactEdge::new`: no id yet (`PLACEHOLDER`)
+abbrev pub newEdge : ℕ → ℕ → ContactEdge
+newEdge a b =
+    record {
+      id = record { 0 = 0xffff_ffff };
+      collider1 = a;
+      collider2 = b;
+      body1 = body.None;
+      body2 = body.None;
+      «pair_index» = 0;
+      touching = false;
+      «contact_events» = false;
     }
 
 -- the pair stands already, in either order

@@ -5,7 +5,9 @@ pub mod Pigeonhole
 pub mod RangeLaws
 pub mod IdLaws
 pub mod RangeSteps
+pub mod Checked
 pub mod Calls
+pub mod Removing
 pub mod Promises
 pub mod Zeros
 pub mod LayOutLaws
@@ -14,3 +16,4 @@ pub mod FitsLaws
 pub mod AddKeeps
 pub mod RemoveKeeps
 pub mod LaidOutLaws
+pub mod CallLaws

@@ -6,9 +6,11 @@ use mathlib.Core.Bool.{cond}
 use mathlib.Core.List.{List}
 use lib.Dec.{eqb}
 use Rattle.contact_types.specs.Refusals.{numberOf}
-use Rattle.contact_graph.specs.Calls.{layOutRefusal, laidOut}
+use Rattle.contact_graph.specs.Calls.{layOutRefusal, laidOut, idRefusal, removedWords}
 use Rattle.contact_graph.specs.declared.lay_out.LayOutAnswer.{LayOutAnswer}
 use Rattle.contact_graph.specs.declared.lay_out.LayOutAnswer.the-variants as lay-out
+use Rattle.contact_graph.specs.declared.remove.RemoveAnswer.{RemoveAnswer}
+use Rattle.contact_graph.specs.declared.remove.RemoveAnswer.the-variants as remove
 
 -- where a call answers nothing but that it was done
 pub data Answer : Type 0 where
@@ -26,3 +28,11 @@ layOutAnswer (lay-out.Refused r) = refused (numberOf r)
 pub record LaidOut (before : List ℕ) (capacity : ℕ) (after : List ℕ) (r : LayOutAnswer) : Type 0 where
   pub answer : layOutAnswer r ≡ answerFor (layOutRefusal before capacity)
   pub graph : after ≡ cond (eqb (layOutRefusal before capacity) 0) (laidOut capacity) before
+
+abbrev pub removeAnswer : RemoveAnswer → Answer
+removeAnswer remove.Done = done
+removeAnswer (remove.Refused r) = refused (numberOf r)
+
+pub record Removed (before : List ℕ) (id : ℕ) (after : List ℕ) (r : RemoveAnswer) : Type 0 where
+  pub answer : removeAnswer r ≡ answerFor (idRefusal before id)
+  pub graph : after ≡ cond (eqb (idRefusal before id) 0) (removedWords before id) before

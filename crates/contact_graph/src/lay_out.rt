@@ -5,13 +5,9 @@ ghost use lib.ListN.{length};
 ghost use Rattle.contact_records.specs.Written.{zeros};
 ghost use Rattle.contact_graph.specs.Layout.{graphLength};
 ghost use Rattle.contact_graph.specs.Promises.{LaidOut};
+use crate::layout::CONTACT_SIZE;
+use crate::layout::MOST_CONTACTS;
 use contact_types::refusal::Refusal;
-
-// Words of a contact's record.
-pub const CONTACT_SIZE: usize = 523;
-
-// Contacts of a graph, at most.
-pub const MOST_CONTACTS: u32 = 256;
 
 pub enum LayOutAnswer {
     Done,
@@ -43,7 +39,7 @@ pub fn lay_out(graph: &mut [u32], capacity: u32) -> LayOutAnswer
     if capacity == 0 {
         return LayOutAnswer::Refused(Refusal::WrongLength);
     }
-    if MOST_CONTACTS < capacity {
+    if MOST_CONTACTS < capacity as usize {
         return LayOutAnswer::Refused(Refusal::WrongLength);
     }
     if graph.len() != graph_length(capacity as usize) {

@@ -3,3 +3,4 @@ pub mod call;
 pub mod lay_out;
 pub mod layout;
 pub mod range;
+pub mod remove;

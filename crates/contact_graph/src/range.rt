@@ -236,7 +236,7 @@ fn free_once(graph: &[u32], marks: &mut [u64]) -> bool
 }
 
 // An id stands if its record names a place of the list that names it.
-fn is_standing(graph: &[u32], id: usize) -> bool
+pub fn is_standing(graph: &[u32], id: usize) -> bool
     requires { ⌜ Standing (now graph) × (id < givenOf (now graph)) ⌝ }
     ensures { λ r. ⌜ r ≡ stands (now (graph .entry)) id ⌝ }
 {
