@@ -81,8 +81,11 @@ module _ {g h words : List ℕ} {id m n : ℕ} (r : InRange g) (e : AddEffect g 
   unfolding countsFit
   counts-kept =
       let z = counts r in
-      rw (le-leb (givenOf h) (capacityOf h) (omega (arith, e .given, e .capacity, given-most)), le-leb (listedCount h) (capacityOf h) (omega (arith, e .listed, e .capacity)),
-      le-leb (freeCount h) (capacityOf h) (omega (arith, e .freed, e .capacity, free-less)))
+      rw (
+        le-leb (givenOf h) (capacityOf h) (omega (arith, e .given, e .capacity, given-most)),
+        le-leb (listedCount h) (capacityOf h) (omega (arith, e .listed, e .capacity)),
+        le-leb (freeCount h) (capacityOf h) (omega (arith, e .freed, e .capacity, free-less)),
+      )
 
   given-kept : listedGiven h ≡ true
   unfolding listedGiven
@@ -178,8 +181,8 @@ module _ {g h words : List ℕ} {id m n : ℕ} (r : InRange g) (e : AddEffect g 
       elim (same-or-not i id) [
         | inl q ↦ or-left (stands h i) (isFree h i) (ap (stands h) q ∙ stands-new)
         | inr d ↦
-          let l : f .0 < freeCount h = left (f .0) (f .1) (λ z. d (sym (f .2) ∙ z)) new in
-          or-right (stands h i) (isFree h i) (ap (isFree h) (sym (free-word (f .0) l ∙ f .2)) ∙ free-at h (f .0) l)
+            let l : f .0 < freeCount h = left (f .0) (f .1) (λ z. d (sym (f .2) ∙ z)) new in
+            or-right (stands h i) (isFree h i) (ap (isFree h) (sym (free-word (f .0) l ∙ f .2)) ∙ free-at h (f .0) l)
       ]
     where
       left : (k : ℕ) → k < freeCount g → (freeAt g k ≡ id → ⊥) → NewId g id m n → k < freeCount h

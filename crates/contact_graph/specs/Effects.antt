@@ -101,18 +101,18 @@ module _ (g words : List ℕ) (id given freed : ℕ) (r : RightLength g) (below 
         freed = head 2 (omega arith);
         list = λ p h. kept (4 + p) (inr (omega arith)) (inl (omega arith)) (inl (omega (arith, contact-after r id)));
         last =
-          getD-put-apart listing 1 (given ∷ (listedCount g + 1) ∷ freed ∷ []) (4 + listedCount g) 0 (inr (omega arith))
-          ∙ ap (λ (j : ℕ). wordAt listing j) (let e : 4 + listedCount g ≡ 4 + listedCount g + 0 = omega arith in e)
-          ∙ getD-put recorded (4 + listedCount g) (id ∷ []) 0 0 (omega arith) (omega (arith, length-put g (contactAt g id) words, long));
+            getD-put-apart listing 1 (given ∷ (listedCount g + 1) ∷ freed ∷ []) (4 + listedCount g) 0 (inr (omega arith))
+            ∙ ap (λ (j : ℕ). wordAt listing j) (let e : 4 + listedCount g ≡ 4 + listedCount g + 0 = omega arith in e)
+            ∙ getD-put recorded (4 + listedCount g) (id ∷ []) 0 0 (omega arith) (omega (arith, length-put g (contactAt g id) words, long));
         free = λ k h. ap (λ (c : ℕ). wordAt added (place.freePlace c + k)) capacity-kept ∙ kept (4 + capacityOf g + k) (inr (omega arith)) (inr (omega arith)) (inl (omega (arith, contact-after r id)));
         others =
-          λ i o h n l. ap (λ (c : ℕ). wordAt added (place.contactPlace c i + o)) capacity-kept
-          ∙ kept (contactAt g i + o) (inr (omega (arith, contact-after r i))) (inr (omega (arith, contact-after r i))) (word-apart (4 + 2 * capacityOf g) i id o n l);
+            λ i o h n l. ap (λ (c : ℕ). wordAt added (place.contactPlace c i + o)) capacity-kept
+            ∙ kept (contactAt g i + o) (inr (omega (arith, contact-after r i))) (inr (omega (arith, contact-after r i))) (word-apart (4 + 2 * capacityOf g) i id o n l);
         own =
-          λ o l. ap (λ (c : ℕ). wordAt added (place.contactPlace c id + o)) capacity-kept
-          ∙ getD-put-apart listing 1 (given ∷ (listedCount g + 1) ∷ freed ∷ []) (contactAt g id + o) 0 (inr (omega (arith, contact-after r id)))
-          ∙ getD-put-apart recorded (4 + listedCount g) (id ∷ []) (contactAt g id + o) 0 (inr (omega (arith, contact-after r id)))
-          ∙ getD-put g (contactAt g id) words o 0 (omega (arith, full)) (omega (arith, contact-room r id below));
+            λ o l. ap (λ (c : ℕ). wordAt added (place.contactPlace c id + o)) capacity-kept
+            ∙ getD-put-apart listing 1 (given ∷ (listedCount g + 1) ∷ freed ∷ []) (contactAt g id + o) 0 (inr (omega (arith, contact-after r id)))
+            ∙ getD-put-apart recorded (4 + listedCount g) (id ∷ []) (contactAt g id + o) 0 (inr (omega (arith, contact-after r id)))
+            ∙ getD-put g (contactAt g id) words o 0 (omega (arith, full)) (omega (arith, contact-room r id below));
       }
 
 -- ---- a removal: the last listed id at the gap, its new place in its record, the id among the free ones, the two counts
@@ -135,15 +135,15 @@ other-word : (base i j o k : ℕ) → o < contactSize → k < contactSize → (i
 other-word base i j o k h l n =
     elim (same-or-not i j) [
       | inl e ↦
-        elim (differ o k (n e)) [
-          | inl a ↦ inl (rw e (omega arith))
-          | inr a ↦ inr (rw e (omega arith))
-        ]
+          elim (differ o k (n e)) [
+            | inl a ↦ inl (rw e (omega arith))
+            | inr a ↦ inr (rw e (omega arith))
+          ]
       | inr d ↦
-        elim (slots-apart base contactSize i j d) [
-          | inl a ↦ inl (omega arith)
-          | inr a ↦ inr (omega arith)
-        ]
+          elim (slots-apart base contactSize i j d) [
+            | inl a ↦ inl (omega arith)
+            | inr a ↦ inr (omega arith)
+          ]
     ]
 
 module _ (g : List ℕ) (id p last : ℕ) (r : RightLength g) (here : p < listedCount g) (fits : listedCount g ≤ capacityOf g) (below : last < capacityOf g) (spare : freeCount g < capacityOf g) where
@@ -217,16 +217,16 @@ module _ (g : List ℕ) (id p last : ℕ) (r : RightLength g) (here : p < listed
         listed = counted 0 (omega arith);
         freed = counted 1 (omega arith);
         list =
-          λ q h n. still (4 + q) (inr (omega arith)) (inl (omega arith)) (inl (omega (arith, contact-after r last)))
-          (elim (differ q p n) [ inl x ↦ inl (omega arith) | inr x ↦ inr (omega arith) ]);
+            λ q h n. still (4 + q) (inr (omega arith)) (inl (omega arith)) (inl (omega (arith, contact-after r last)))
+            (elim (differ q p n) [ inl x ↦ inl (omega arith) | inr x ↦ inr (omega arith) ]);
         gap = at-gap;
         free =
-          λ k h. ap (λ (c : ℕ). wordAt removed (place.freePlace c + k)) same-capacity
-          ∙ still (4 + capacityOf g + k) (inr (omega arith)) (inl (omega arith)) (inl (omega (arith, contact-after r last))) (inr (omega arith));
+            λ k h. ap (λ (c : ℕ). wordAt removed (place.freePlace c + k)) same-capacity
+            ∙ still (4 + capacityOf g + k) (inr (omega arith)) (inl (omega arith)) (inl (omega (arith, contact-after r last))) (inr (omega arith));
         freeLast = ap (λ (c : ℕ). wordAt removed (place.freePlace c + freeCount g)) same-capacity ∙ at-free;
         words =
-          λ i o h l n. ap (λ (c : ℕ). wordAt removed (place.contactPlace c i + o)) same-capacity
-          ∙ still (contactAt g i + o) (inr (omega (arith, contact-after r i))) (inr (omega (arith, contact-after r i)))
-          (other-word (4 + 2 * capacityOf g) i last o pairIndexPlace l (omega arith) n) (inr (omega (arith, contact-after r i)));
+            λ i o h l n. ap (λ (c : ℕ). wordAt removed (place.contactPlace c i + o)) same-capacity
+            ∙ still (contactAt g i + o) (inr (omega (arith, contact-after r i))) (inr (omega (arith, contact-after r i)))
+            (other-word (4 + 2 * capacityOf g) i last o pairIndexPlace l (omega arith) n) (inr (omega (arith, contact-after r i)));
         moved = ap (λ (c : ℕ). wordAt removed (place.contactPlace c last + pairIndexPlace)) same-capacity ∙ at-index;
       }

@@ -42,9 +42,9 @@ module _ {g : List ℕ} (r : InRange g) where
       elim (given-known r id h) [
         | inl s ↦ let f = stands-found g id s in (f .0, omega (arith, f .1), id-listed g (f .0) (f .1) ∙ f .2)
         | inr s ↦
-          let f = free-found g id s in
-          let e : listedCount g + f .0 - listedCount g ≡ f .0 = omega arith in
-          (listedCount g + f .0, omega (arith, f .1), id-free g (listedCount g + f .0) (omega arith) ∙ ap (freeAt g) e ∙ f .2)
+            let f = free-found g id s in
+            let e : listedCount g + f .0 - listedCount g ≡ f .0 = omega arith in
+            (listedCount g + f .0, omega (arith, f .1), id-free g (listedCount g + f .0) (omega arith) ∙ ap (freeAt g) e ∙ f .2)
       ]
 
   id-given : (k : ℕ) → k < listedCount g + freeCount g → idAt g k < givenOf g
@@ -63,15 +63,15 @@ module _ {g : List ℕ} (r : InRange g) where
       let n = listedCount g in
       elim (place-cases g j) [
         | inl a ↦
-          elim (place-cases g k) [
-            | inl b ↦ listed-once r j k a b (sym (id-listed g j a) ∙ e ∙ id-listed g k b)
-            | inr b ↦ absurd (listed-not-free j (k - n) a (omega arith) (sym (id-listed g j a) ∙ e ∙ id-free g k b))
-          ]
+            elim (place-cases g k) [
+              | inl b ↦ listed-once r j k a b (sym (id-listed g j a) ∙ e ∙ id-listed g k b)
+              | inr b ↦ absurd (listed-not-free j (k - n) a (omega arith) (sym (id-listed g j a) ∙ e ∙ id-free g k b))
+            ]
         | inr a ↦
-          elim (place-cases g k) [
-            | inl b ↦ absurd (listed-not-free k (j - n) b (omega arith) (sym (id-listed g k b) ∙ sym e ∙ id-free g j a))
-            | inr b ↦ let s = free-once r (j - n) (k - n) (omega arith) (omega arith) (sym (id-free g j a) ∙ e ∙ id-free g k b) in omega arith
-          ]
+            elim (place-cases g k) [
+              | inl b ↦ absurd (listed-not-free k (j - n) b (omega arith) (sym (id-listed g k b) ∙ sym e ∙ id-free g j a))
+              | inr b ↦ let s = free-once r (j - n) (k - n) (omega arith) (omega arith) (sym (id-free g j a) ∙ e ∙ id-free g k b) in omega arith
+            ]
       ]
 
   -- as many ids were given as are listed and free

@@ -51,8 +51,11 @@ module _ (capacity : ℕ) (least : 0 < capacity) (most : capacity ≤ 256) where
   pub laid-right : rightLength laid ≡ true
   unfolding rightLength
   laid-right =
-      rw (lt-ltb 0 (capacityOf laid) (omega (arith, laid-capacity)), le-leb (capacityOf laid) 256 (omega (arith, laid-capacity)),
-      eq-eqb (length laid) (graphLength (capacityOf laid)) (laid-length ∙ ap graphLength (sym laid-capacity)))
+      rw (
+        lt-ltb 0 (capacityOf laid) (omega (arith, laid-capacity)),
+        le-leb (capacityOf laid) 256 (omega (arith, laid-capacity)),
+        eq-eqb (length laid) (graphLength (capacityOf laid)) (laid-length ∙ ap graphLength (sym laid-capacity)),
+      )
 
   every-none : (test : ℕ → Bool) (n : ℕ) → n ≡ 0 → every test n ≡ true
   unfolding every

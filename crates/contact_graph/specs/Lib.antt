@@ -7,6 +7,7 @@ pub mod IdLaws
 pub mod RangeSteps
 pub mod Checked
 pub mod Calls
+pub mod LookUp
 pub mod Removing
 pub mod Promises
 pub mod Zeros
@@ -17,3 +18,4 @@ pub mod AddKeeps
 pub mod RemoveKeeps
 pub mod LaidOutLaws
 pub mod CallLaws
+pub mod LookUpLaws

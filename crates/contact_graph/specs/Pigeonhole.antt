@@ -28,8 +28,8 @@ fewer : (f : ℕ → ℕ) (m n k i : ℕ) → k < suc n → f k ≡ m → i < m 
 fewer f m n k i l e h (j, u, w) =
     elim (eq-or-lt-of-le (let z : j ≤ n = omega arith in z)) [
       | inl q ↦
-        let d : k ≡ n → ⊥ = λ r. omega (arith, ap f (q ∙ sym r)) in
-        (k, omega arith, moved-here f k (f n) ∙ ap f (sym q) ∙ w)
+          let d : k ≡ n → ⊥ = λ r. omega (arith, ap f (q ∙ sym r)) in
+          (k, omega arith, moved-here f k (f n) ∙ ap f (sym q) ∙ w)
       | inr s ↦ (j, s, moved-other f k (f n) j (λ r. omega (arith, ap f r)) ∙ w)
     ]
 

@@ -11,6 +11,9 @@ use Rattle.contact_graph.specs.declared.lay_out.LayOutAnswer.{LayOutAnsw
 use Rattle.contact_graph.specs.declared.lay_out.LayOutAnswer.the-variants as lay-out
 use Rattle.contact_graph.specs.declared.remove.RemoveAnswer.{RemoveAnswer}
 use Rattle.contact_graph.specs.declared.remove.RemoveAnswer.the-variants as remove
+use Rattle.contact_graph.specs.LookUp.{Edge, edgeValue, edgeOf}
+use Rattle.contact_graph.specs.declared.look_up.LookUpAnswer.{LookUpAnswer}
+use Rattle.contact_graph.specs.declared.look_up.LookUpAnswer.the-variants as look-up
 
 -- where a call answers nothing but that it was done
 pub data Answer : Type 0 where
@@ -36,3 +39,16 @@ removeAnswer (remove.Refused r) = refused (numberOf r)
 pub record Removed (before : List ℕ) (id : ℕ) (after : List ℕ) (r : RemoveAnswer) : Type 0 where
   pub answer : removeAnswer r ≡ answerFor (idRefusal before id)
   pub graph : after ≡ cond (eqb (idRefusal before id) 0) (removedWords before id) before
+
+-- an edge, or a refusal
+pub data EdgeAnswer : Type 0 where
+  refusedEdge : ℕ → EdgeAnswer
+  found : Edge → EdgeAnswer
+
+abbrev pub lookUpAnswer : LookUpAnswer → EdgeAnswer
+lookUpAnswer (look-up.Found e) = found (edgeValue e)
+lookUpAnswer (look-up.Refused r) = refusedEdge (numberOf r)
+
+-- The lent graph is read only.
+pub record LookedUp (g : List ℕ) (id : ℕ) (r : LookUpAnswer) : Type 0 where
+  pub answer : lookUpAnswer r ≡ cond (eqb (idRefusal g id) 0) (found (edgeOf g id)) (refusedEdge (idRefusal g id))

@@ -100,7 +100,7 @@ in-range-test {g} r =
       holds (freeGiven g) (r .freed),
       holds (freeOnce g) (r .once),
       holds (freeApart g) (r .apart),
-      holds (givenKnown g) (r .known)
+      holds (givenKnown g) (r .known),
     ) (r .pairs)
 
 -- ---- counts
@@ -205,9 +205,10 @@ marks-fit : (g : List ℕ) (at : ℕ) → marksFit g at ≡ true → ((k : ℕ) 
 unfolding marksFit
 marks-fit g at e =
     let f : ℕ → Bool = λ k. ltb (wordAt g (at + record-place.edgePlace + k)) 2 in
-    let c = ltb (wordAt g (at + record-place.cachePlace)) 2 in
-    (λ k h. ltb-true (wordAt g (at + record-place.edgePlace + k)) 2 (every-at f 11 k (first-of (every f 11) c e) h),
-    ltb-true (wordAt g (at + record-place.cachePlace)) 2 (rest-of (every f 11) c e))
+    let c = ltb (wordAt g (at + record-place.cachePlace)) 2 in (
+      λ k h. ltb-true (wordAt g (at + record-place.edgePlace + k)) 2 (every-at f 11 k (first-of (every f 11) c e) h),
+      ltb-true (wordAt g (at + record-place.cachePlace)) 2 (rest-of (every f 11) c e),
+    )
 
 manifolds-fit : (g : List ℕ) (at : ℕ) → manifoldsFit g at ≡ true
     → (wordAt g (at + record-place.manifoldsPlace) ≤ pairManifolds)
@@ -216,9 +217,10 @@ unfolding manifoldsFit
 manifolds-fit g at e =
     let n = wordAt g (at + record-place.manifoldsPlace) in
     let points : ℕ → ℕ = λ k. wordAt g (at + record-place.manifoldsPlace + 1 + k * record-place.manifoldSize) in
-    let f : ℕ → Bool = λ k. leb (points k) storedPoints in
-    (leb-true n pairManifolds (first-of (leb n pairManifolds) (every f n) e),
-    λ k h. leb-true (points k) storedPoints (every-at f n k (rest-of (leb n pairManifolds) (every f n) e) h))
+    let f : ℕ → Bool = λ k. leb (points k) storedPoints in (
+      leb-true n pairManifolds (first-of (leb n pairManifolds) (every f n) e),
+      λ k h. leb-true (points k) storedPoints (every-at f n k (rest-of (leb n pairManifolds) (every f n) e) h),
+    )
 
 pub fitting : (g : List ℕ) (at : ℕ) → contactFits g at ≡ true → Fitting g at
 unfolding contactFits

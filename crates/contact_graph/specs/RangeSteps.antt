@@ -210,6 +210,7 @@ same-cases a b c d e = go (eqb a c) (eqb b d) (eqb a d) (eqb b c) refl refl refl
     swapped true true hw hx e = inr (eqb-true a d hw, eqb-true b c hx)
     swapped true false hw hx e = absurd (true≢false (sym e))
     swapped false x hw hx e = absurd (true≢false (sym e))
+
     go : (u v w x : Bool) → eqb a c ≡ u → eqb b d ≡ v → eqb a d ≡ w → eqb b c ≡ x → ((u && v) || (w && x)) ≡ true → ((a ≡ c) × (b ≡ d)) ⊎ ((a ≡ d) × (b ≡ c))
     go true true w x hu hv hw hx e = inl (eqb-true a c hu, eqb-true b d hv)
     go true false w x hu hv hw hx e = swapped w x hw hx e
@@ -237,6 +238,7 @@ module _ (a b c d : ℕ) (ha : a < colliders) (hb : b < colliders) (hc : c < col
             | inl s ↦ omega (arith, s .0, s .1)
             | inr s ↦ omega (arith, s .0, s .1)
           ])
+
       split : min a b * 256 + max a b ≡ min c d * 256 + max c d → (t : Bool) → eqb a c ≡ t → sameColliders a b c d ≡ true
       split e true t =
           let p = eqb-true a c t in
@@ -247,6 +249,7 @@ module _ (a b c d : ℕ) (ha : a < colliders) (hb : b < colliders) (hc : c < col
           let p : a ≡ d = omega arith in
           let q : b ≡ c = omega arith in
           subst (λ (n : ℕ). sameColliders a b n d ≡ true) q (subst (λ (n : ℕ). sameColliders a b b n ≡ true) p (same-crossed a b))
+
       same : eqb (pairNumber a b) (pairNumber c d) ≡ true → sameColliders a b c d ≡ true
       same e = split (sym (number-is a b) ∙ eqb-true (pairNumber a b) (pairNumber c d) e ∙ number-is c d) (eqb a c) refl
 

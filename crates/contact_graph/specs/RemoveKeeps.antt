@@ -72,8 +72,11 @@ module _ {g h : List ℕ} {id p : ℕ} (r : InRange g) (here : p < listedCount g
   unfolding countsFit
   counts-kept =
       let z = counts r in
-      rw (le-leb (givenOf h) (capacityOf h) (omega (arith, e .given, e .capacity)), le-leb (listedCount h) (capacityOf h) (omega (arith, e .listed, e .capacity)),
-      le-leb (freeCount h) (capacityOf h) (omega (arith, e .freed, e .capacity, given-sum r)))
+      rw (
+        le-leb (givenOf h) (capacityOf h) (omega (arith, e .given, e .capacity)),
+        le-leb (listedCount h) (capacityOf h) (omega (arith, e .listed, e .capacity)),
+        le-leb (freeCount h) (capacityOf h) (omega (arith, e .freed, e .capacity, given-sum r)),
+      )
 
   given-kept : listedGiven h ≡ true
   unfolding listedGiven
@@ -89,10 +92,10 @@ module _ {g h : List ℕ} {id p : ℕ} (r : InRange g) (here : p < listedCount g
       (elim (same-or-not q p) [
         | inl s ↦ ap (λ (i : ℕ). wordAt h (contactAt h i + record-place.pairIndexPlace)) (ap (listedAt h) s ∙ e .gap) ∙ e .moved ∙ sym s
         | inr d ↦
-          let b : q < listedCount g = omega (arith, e .listed) in
-          ap (λ (i : ℕ). wordAt h (contactAt h i + record-place.pairIndexPlace)) (e .list q b d)
-          ∙ e .words (listedAt g q) record-place.pairIndexPlace (listed-below r q b) (omega arith) (λ s t. let z = listed-once r q end b (omega arith) s in omega (arith, e .listed))
-          ∙ listed-index r q b
+            let b : q < listedCount g = omega (arith, e .listed) in
+            ap (λ (i : ℕ). wordAt h (contactAt h i + record-place.pairIndexPlace)) (e .list q b d)
+            ∙ e .words (listedAt g q) record-place.pairIndexPlace (listed-below r q b) (omega arith) (λ s t. let z = listed-once r q end b (omega arith) s in omega (arith, e .listed))
+            ∙ listed-index r q b
       ]))
 
   fits-kept : contactsFit h ≡ true
@@ -146,8 +149,8 @@ module _ {g h : List ℕ} {id p : ℕ} (r : InRange g) (here : p < listedCount g
       let n : f .0 ≢ p = λ q. d (sym (f .2) ∙ ap (listedAt g) q ∙ names) in
       elim (same-or-not (f .0) end) [
         | inl q ↦
-          ap (stands h) (sym (e .gap ∙ ap (listedAt g) (sym q) ∙ f .2))
-          ∙ stands-at h p (omega (arith, e .listed, n, q))
+            ap (stands h) (sym (e .gap ∙ ap (listedAt g) (sym q) ∙ f .2))
+            ∙ stands-at h p (omega (arith, e .listed, n, q))
         | inr q ↦ ap (stands h) (sym (e .list (f .0) (f .1) n ∙ f .2)) ∙ stands-at h (f .0) (omega (arith, e .listed, f .1, q))
       ]
 

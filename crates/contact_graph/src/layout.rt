@@ -11,18 +11,28 @@ use words::row::load_word;
 pub const MOST_CONTACTS: usize = 256;
 
 pub const GIVEN_PLACE: usize = 1;
+
 pub const LISTED_PLACE: usize = 2;
+
 pub const FREED_PLACE: usize = 3;
+
 pub const LIST_PLACE: usize = 4;
 
 // Of a contact's record.
 pub const BODY1_PLACE: usize = 2;
+
 pub const BODY2_PLACE: usize = 4;
+
 pub const PAIR_INDEX_PLACE: usize = 6;
+
 pub const EDGE_PLACE: usize = 7;
+
 pub const CACHE_PLACE: usize = 20;
+
 pub const MANIFOLDS_PLACE: usize = 36;
+
 pub const MANIFOLD_SIZE: usize = 81;
+
 pub const CONTACT_SIZE: usize = 523;
 
 // A word as a number of places.

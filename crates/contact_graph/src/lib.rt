@@ -2,5 +2,6 @@
 pub mod call;
 pub mod lay_out;
 pub mod layout;
+pub mod look_up;
 pub mod range;
 pub mod remove;

@@ -16,10 +16,10 @@ use crate::layout::CONTACT_SIZE;
 use crate::layout::EDGE_PLACE;
 use crate::layout::FREED_PLACE;
 use crate::layout::GIVEN_PLACE;
-use crate::layout::LISTED_PLACE;
 use crate::layout::LIST_PLACE;
-use crate::layout::MANIFOLDS_PLACE;
+use crate::layout::LISTED_PLACE;
 use crate::layout::MANIFOLD_SIZE;
+use crate::layout::MANIFOLDS_PLACE;
 use crate::layout::MOST_CONTACTS;
 use crate::layout::PAIR_INDEX_PLACE;
 use crate::layout::contact_at;
@@ -33,6 +33,7 @@ use words::row::load_word;
 
 // Collider and body numbers are below these, and a mark is below 2.
 const COLLIDERS: u32 = 256;
+
 const BODIES: u32 = 128;
 
 // The marks of a contact's edge and pair, which stand side by side.

@@ -60,10 +60,12 @@ loop-again c =
     let g = s .args .graph .now in
     let k = w .loop .k in
     let v = w .loop .inv in
-    let h = freed-at g k (s .pre .1) (search needs) in
-    (search needs, marks-size (w .loop .marks) (r .free-at .result) (u .set .ensures) (v .1),
-    every-next (test g) k (v .2) (seen (freeAt g) k (v .3) (r .free-at .ensures) (b .get .ensures) ∙ ap not (u .before .before .if1 .left)),
-    marks-next (freeAt g) k (v .3) (r .free-at .ensures) (omega arith) (u .set .ensures))
+    let h = freed-at g k (s .pre .1) (search needs) in (
+      search needs,
+      marks-size (w .loop .marks) (r .free-at .result) (u .set .ensures) (v .1),
+      every-next (test g) k (v .2) (seen (freeAt g) k (v .3) (r .free-at .ensures) (b .get .ensures) ∙ ap not (u .before .before .if1 .left)),
+      marks-next (freeAt g) k (v .3) (r .free-at .ensures) (omega arith) (u .set .ensures),
+    )
 
 returns-2 : tie.Need-returns-2 Inv-loop μ-loop
 unfolding freeOnce

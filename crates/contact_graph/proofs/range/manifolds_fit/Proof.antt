@@ -37,8 +37,11 @@ returns-2 c =
     let w = c .before .before .before in
     let n = w .before .before .number-at in
     let a = w .before .before .before .before .args in
-    rw (within (n .ensures) (w .before .if1 .left), ← n .ensures,
-    every-fails (test (a .graph .now) (a .at)) (n .result) (w .loop .k) (search needs) (above (c .before .number-at2 .ensures) (c .if2 .taken)))
+    rw (
+      within (n .ensures) (w .before .if1 .left),
+      ← n .ensures,
+      every-fails (test (a .graph .now) (a .at)) (n .result) (w .loop .k) (search needs) (above (c .before .number-at2 .ensures) (c .if2 .taken)),
+    )
 
 loop-again : tie.Need-loop-again Inv-loop μ-loop
 loop-again c =

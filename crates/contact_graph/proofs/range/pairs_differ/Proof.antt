@@ -71,10 +71,12 @@ loop-again c =
     let p = w .loop .p in
     let v = w .loop .inv in
     let n = number-read g p (r .before .contact-at .ensures) (r .before .before .number-at2 .ensures) (r .pair-number .ensures) in
-    let h = place-below g p (s .pre .1) (search needs) in
-    (search needs, marks-size (w .loop .marks) (r .pair-number .result) (u .set .ensures) (v .1),
-    every-next (test g) p (v .2) (pair-seen g p (s .pre .1) (search needs) (v .3) n (b .get .ensures) ∙ ap not (u .before .before .if1 .left)),
-    marks-next (placeNumber g) p (v .3) n (omega arith) (u .set .ensures))
+    let h = place-below g p (s .pre .1) (search needs) in (
+      search needs,
+      marks-size (w .loop .marks) (r .pair-number .result) (u .set .ensures) (v .1),
+      every-next (test g) p (v .2) (pair-seen g p (s .pre .1) (search needs) (v .3) n (b .get .ensures) ∙ ap not (u .before .before .if1 .left)),
+      marks-next (placeNumber g) p (v .3) n (omega arith) (u .set .ensures),
+    )
 
 returns-2 : tie.Need-returns-2 Inv-loop μ-loop
 unfolding pairsOnce

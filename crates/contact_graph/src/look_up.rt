@@ -1,0 +1,81 @@
+// The public call `look_up`: a contact's edge by its id. From `get_edge_by_id` of avian's contact_graph.rs.
+ghost use mathlib.Core.Path.{_≡_};
+ghost use mathlib.Core.Bool.{true};
+ghost use lib.ListN.{length};
+ghost use lib.Dec.{eqb};
+ghost use Prim.Native.Nat.{_+_, _≤_, _<_};
+ghost use Rattle.words.specs.Words.{wordAt};
+ghost use Rattle.contact_records.specs.Recorded.{optionalAt};
+ghost use Rattle.contact_graph.specs.Checked.{Checked};
+ghost use Rattle.contact_graph.specs.LookUp.{bodyOf, EdgeLoaded};
+ghost use Rattle.contact_graph.specs.Promises.{LookedUp};
+ghost use Rattle.contact_graph.specs.Range.{stands};
+use crate::call::ContactEdge;
+use crate::call::OptionalBody;
+use crate::call::has_contact;
+use crate::layout::BODY1_PLACE;
+use crate::layout::BODY2_PLACE;
+use crate::layout::EDGE_PLACE;
+use crate::layout::PAIR_INDEX_PLACE;
+use crate::layout::contact_at;
+use crate::range::in_range;
+use crate::range::right_length;
+use contact_types::contact_id::ContactId;
+use contact_types::refusal::Refusal;
+use words::row::load_word;
+
+pub enum LookUpAnswer {
+    Found(ContactEdge),
+    Refused(Refusal),
+}
+
+fn load_body(graph: &[u32], at: usize) -> OptionalBody
+    requires { ⌜ at + 2 ≤ length (now graph) ⌝ }
+    ensures { λ r. ⌜ bodyOf r ≡ optionalAt (now (graph .entry)) at ⌝ }
+{
+    if load_word(graph, at) == 1 {
+        OptionalBody::Body(load_word(graph, at + 1))
+    } else {
+        OptionalBody::None
+    }
+}
+
+fn load_mark(graph: &[u32], at: usize) -> bool
+    requires { ⌜ at < length (now graph) ⌝ }
+    ensures { λ r. ⌜ r ≡ eqb (wordAt (now (graph .entry)) at) 1 ⌝ }
+{
+    load_word(graph, at) == 1
+}
+
+// The edge of a contact whose record begins at that place.
+fn load_edge(graph: &[u32], at: usize, id: u32) -> ContactEdge
+    requires { ⌜ at + 523 ≤ length (now graph) ⌝ }
+    ensures { λ r. ⌜ EdgeLoaded (now (graph .entry)) at id r ⌝ }
+{
+    ContactEdge {
+        id: ContactId(id),
+        collider1: load_word(graph, at),
+        collider2: load_word(graph, at + 1),
+        body1: load_body(graph, at + BODY1_PLACE),
+        body2: load_body(graph, at + BODY2_PLACE),
+        pair_index: load_word(graph, at + PAIR_INDEX_PLACE),
+        touching: load_mark(graph, at + EDGE_PLACE),
+        contact_events: load_mark(graph, at + EDGE_PLACE + 1),
+    }
+}
+
+pub fn look_up(graph: &[u32], id: u32) -> LookUpAnswer
+    ensures { λ r. ⌜ LookedUp (now (graph .entry)) id r ⌝ }
+{
+    if !right_length(graph) {
+        return LookUpAnswer::Refused(Refusal::WrongLength);
+    }
+    if !in_range(graph) {
+        return LookUpAnswer::Refused(Refusal::OutOfRange);
+    }
+    if !has_contact(graph, id) {
+        return LookUpAnswer::Refused(Refusal::NoContact);
+    }
+    let at = contact_at(graph, id as usize);
+    LookUpAnswer::Found(load_edge(graph, at, id))
+}
