@@ -1,3 +1,4 @@
 pub mod Layout
 pub mod Recorded
 pub mod Written
+pub mod Made

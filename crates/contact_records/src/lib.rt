@@ -1,1 +1,2 @@
 // A contact's record in a lent row of words: loaded into structs by value, and stored.
+pub mod point;

@@ -1,0 +1,15 @@
+-- `contact_records::point::point_words` meets its contract. Assumes nothing.
+use Rattle.contact_records.specs.Written.{pointWords}
+use borrow.Author.Needs.{needs}
+use Rattle.contact_records.proofs.point.point_words.Statement.{statement}
+use Rattle.contact_records.proofs.point.point_words.Tie as tie
+
+returns : tie.Need-returns
+unfolding pointWords
+returns c = cc
+
+pub point-words-spec : {M : Type 1} → statement M
+point-words-spec =
+    tie.close
+    (tie.spec (search needs) (search needs) (search needs) (search needs) (search needs) (search needs) (search needs) (search needs)
+    (search needs) (search needs) (search needs) (search needs) (search needs) (search needs) (search needs) (search needs) returns)
