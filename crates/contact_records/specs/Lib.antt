@@ -5,4 +5,6 @@ pub mod Counts
 pub mod Made
 pub mod Lists
 pub mod Stored
+pub mod Lengths
 pub mod Held
+pub mod Apart

@@ -8,7 +8,7 @@ ghost use Rattle.contact_types.specs.Views.{pointOf, manifoldOf, manifoldsOf};
 ghost use Rattle.words.specs.Words.{wordAt};
 ghost use Rattle.contact_records.specs.Recorded.{pointsAt};
 ghost use Rattle.contact_records.specs.Written.{padded, pointWords, manifoldWords, manifoldsWords};
-ghost use Rattle.contact_records.specs.Counts.{surfaceWords, LoadedManifold};
+ghost use Rattle.contact_records.specs.Counts.{Counted, FewPoints, FewManifolds, surfaceWords, LoadedManifold, LoadedManifolds};
 use contact_types::contact_manifold::ContactManifold;
 use contact_types::contact_manifold::ContactManifolds;
 use contact_types::contact_point::ContactPoint;
@@ -19,6 +19,7 @@ use math::bits::bits_of;
 use math::vec::Vec3;
 use words::row::load_float;
 use words::row::load_word;
+use words::row::store_word;
 use words::row::store_words;
 use words::vec::load_vec3;
 
@@ -102,4 +103,60 @@ pub fn store_manifold(g: &mut [u32], at: usize, m: ContactManifold)
     store_words(g, at, &w);
     let points = m.points;
     store_points(g, at + 9, points, m.count as usize);
+}
+
+// What stands in the places of a list that has fewer than six.
+fn no_manifold() -> ContactManifold {
+    let none = ContactPoint::new(Vec3::ZERO, Vec3::ZERO, Vec3::ZERO, 0.0);
+    ContactManifold {
+        points: [none; 4],
+        count: 0,
+        normal: Vec3::ZERO,
+        friction: 0.0,
+        restitution: 0.0,
+        tangent_velocity: Vec3::ZERO,
+    }
+}
+
+// The number of manifolds, and the manifolds after it.
+pub fn load_manifolds(g: &[u32], at: usize) -> ContactManifolds
+    requires { ⌜ (at + 487 ≤ length (now g)) × Counted (now g) at ⌝ }
+    ensures { λ r. ⌜ LoadedManifolds (now (g .entry)) at r ⌝ }
+{
+    let count = load_word(g, at);
+    let n = count as usize;
+    let none = no_manifold();
+    let mut list = [none; 6];
+    let mut k = 0;
+    while k < n {
+        let m = load_manifold(g, at + 1 + k * 81);
+        list[k] = m;
+        k += 1;
+    }
+    ContactManifolds { list, count }
+}
+
+// The first n of six manifolds, one after another.
+fn store_list(g: &mut [u32], at: usize, list: [ContactManifold; 6], n: usize)
+    requires { ⌜ (n ≤ 6) × (at + 486 ≤ length (now g)) × FewPoints list n ⌝ }
+    ensures { λ _. ⌜ now (g .exit) ≡ put (now (g .entry)) at (each manifoldWords (map manifoldOf (take n list))) ⌝ }
+{
+    let mut k = 0;
+    while k < n {
+        let m = list[k];
+        store_manifold(g, at + k * 81, m);
+        k += 1;
+    }
+}
+
+// The manifolds past the list's own are cleared.
+pub fn store_manifolds(g: &mut [u32], at: usize, ms: ContactManifolds)
+    requires { ⌜ (at + 487 ≤ length (now g)) × FewManifolds ms ⌝ }
+    ensures { λ _. ⌜ now (g .exit) ≡ put (now (g .entry)) at (manifoldsWords (manifoldsOf ms)) ⌝ }
+{
+    let list = ms.list;
+    let n = ms.count as usize;
+    store_word(g, at, ms.count);
+    store_list(g, at + 1, list, n);
+    store_zeros(g, at + 1 + n * 81, 486 - n * 81);
 }

@@ -1,0 +1,56 @@
+-- How many words a record has: whatever it holds, since lists are cut and filled up. Assumes nothing.
+use mathlib.Core.Path.{_≡_, refl, ap, _∙_}
+use Prim.Native.Nat.{ℕ, _+_}
+use native.Mathlib.Omega.{arith}
+use mathlib.Core.List.{List, [], _∷_, _++_}
+use mathlib.Core.Option.{Option, none, some}
+use lib.IntN.{ℤ}
+use lib.ListN.{length, length-append}
+use Rattle.rows.specs.Rows.{each}
+use Rattle.rules.specs.Records.{Point, Manifold, Cache, PairFlags, Names, EdgeFlags, Pair}
+use Rattle.contact_records.specs.Layout as place
+use Rattle.contact_records.specs.Lists.{length-zeros, length-padded}
+use Rattle.contact_records.specs.Written.{intWord, optionalWords, pointWords, manifoldWords, manifoldsWords, cacheWords, flagsWords, namesWords, edgeWords, stateWords, contactWords}
+use Rattle.words.specs.Words.{floatWord}
+
+pub length-point : (p : Point) → length (pointWords p) ≡ place.pointSize
+unfolding pointWords
+length-point p = refl
+
+pub length-manifold : (m : Manifold) → length (manifoldWords m) ≡ place.manifoldSize
+unfolding manifoldWords
+length-manifold m = let e = length-padded 72 (each pointWords (m .points)) in omega arith
+
+pub length-manifolds : (ms : List Manifold) → length (manifoldsWords ms) ≡ place.manifoldsSize
+unfolding manifoldsWords
+length-manifolds ms = let e = length-padded 486 (each manifoldWords ms) in omega arith
+
+pub length-cache : (c : Option Cache) → length (cacheWords c) ≡ place.cacheSize
+unfolding cacheWords
+length-cache none = length-zeros 16
+length-cache (some c) = refl
+
+pub length-flags : (f : PairFlags) → length (flagsWords f) ≡ 9
+unfolding flagsWords
+length-flags f = refl
+
+length-optional : (n : Option ℕ) → length (optionalWords n) ≡ 2
+unfolding optionalWords
+length-optional none = refl
+length-optional (some n) = refl
+
+pub length-names : (n : Names) (index : ℕ) → length (namesWords n index) ≡ 7
+unfolding namesWords
+length-names n index = simp length-append (omega (arith, length-optional (n .body1), length-optional (n .body2)))
+
+pub length-edge : (e : EdgeFlags) → length (edgeWords e) ≡ 2
+unfolding edgeWords
+length-edge e = refl
+
+pub length-state : (p : Pair) → length (stateWords p) ≡ 514
+unfolding stateWords
+length-state p = simp length-append (omega (arith, length-flags (p .flags), length-cache (p .cache), length-manifolds (p .manifolds)))
+
+pub length-contact : (index : ℕ) (p : Pair) → length (contactWords index p) ≡ place.contactSize
+unfolding contactWords
+length-contact index p = simp length-append (omega (arith, length-names (p .names) index, length-edge (p .edge), length-state p))
