@@ -2,9 +2,10 @@ pub mod Layout
 pub mod Recorded
 pub mod Written
 pub mod Counts
+pub mod StateViews
 pub mod Made
 pub mod Lists
-pub mod Stored
 pub mod Lengths
+pub mod Stored
 pub mod Held
 pub mod Apart

@@ -1,4 +1,5 @@
 // A contact's record in a lent row of words: loaded into structs by value, and stored.
 pub mod manifold;
 pub mod point;
+pub mod state;
 pub mod zeros;

@@ -1,73 +1,44 @@
+-- `contact_records::manifold::store_list` meets its contract. Assumes nothing.
+use mathlib.Core.Path.{_≡_, refl, ap, _∙_}
+use Prim.Native.Nat.{_≤_, _-_}
+use lib.ListN.{length, take}
+use Rattle.rows.specs.Rows.{put, each}
+use Rattle.rows.specs.EachLaws.{each-step}
+use Rattle.contact_types.specs.Views.{manifoldOf}
+use Rattle.contact_records.specs.Lengths.{length-manifold}
+use Rattle.contact_records.specs.Stored.{each-map}
+use Rattle.contact_records.specs.Written.{manifoldWords}
+use borrow.Author.Needs.{needs}
 use Rattle.contact_records.proofs.manifold.store_list.Statement.{statement}
 use Rattle.contact_records.proofs.manifold.store_list.Tie as tie
-use Rattle.contact_records.proofs.manifold.store_list.Reads as reads
-use Rattle.contact_records.proofs.manifold.store_list.Lts as lts
-use Rattle.contact_records.proofs.manifold.store_manifold.Reads as store-manifold-reads
 
 abbrev Inv-loop : tie.InvT-loop
-Inv-loop g₀ at n list k₀ g k = ?
+Inv-loop g₀ at n list k₀ g k = (k ≤ n) × (length g ≡ length g₀) × (g ≡ put g₀ at (each (λ m. manifoldWords (manifoldOf m)) (take k list)))
 
 abbrev μ-loop : tie.MeasureT-loop
-μ-loop g₀ at n list k₀ g k = ?
+μ-loop g₀ at n list k₀ g k = n - k
 
--- src/manifold.rt:145:5
 loop-holds : tie.Need-loop-holds Inv-loop μ-loop
-loop-holds c = ?
+unfolding put
+loop-holds c = (search needs, refl, refl)
 
--- src/manifold.rt:146:17
-mul-m : tie.Need-mul-m Inv-loop μ-loop
-mul-m c = ?
-
--- src/manifold.rt:146:17
-array-copy-out-m : tie.Need-array-copy-out-m Inv-loop μ-loop
-array-copy-out-m c = ?
-
--- src/manifold.rt:147:32
-mul-store-manifold : tie.Need-mul-store-manifold Inv-loop μ-loop
-mul-store-manifold c = ?
-
--- src/manifold.rt:147:27
-add-store-manifold : tie.Need-add-store-manifold Inv-loop μ-loop
-add-store-manifold c = ?
-
--- src/manifold.rt:147:9
 store-manifold-requires : tie.Need-store-manifold-requires Inv-loop μ-loop
-store-manifold-requires c κs = ?
+store-manifold-requires c κs = (search needs, c .before .before .before .before .before .pre .2 .each _ _ (search needs))
 
--- src/manifold.rt:148:9
-add-k : tie.Need-add-k Inv-loop μ-loop
-add-k c = ?
-
--- src/manifold.rt:145:5
-loop-less : tie.Need-loop-less Inv-loop μ-loop
-loop-less c = ?
-
--- src/manifold.rt:145:5
 loop-again : tie.Need-loop-again Inv-loop μ-loop
-loop-again c = ?
+loop-again c =
+    let w = c .before .before .before .before .before .before in
+    let n : length (w .before .before .args .t3) ≡ 6 = search needs in
+    (search needs, search needs, each-step (λ m. manifoldWords (manifoldOf m)) 81 (λ m. length-manifold (manifoldOf m)) _ _ _ (w .loop .k) _ (w .loop .inv .2) (c .before .before .store-manifold .ensures) (search needs))
 
--- src/manifold.rt:140:1
-same-length : tie.Need-same-length Inv-loop μ-loop
-same-length c = ?
-
--- src/manifold.rt:140:1
 returns : tie.Need-returns Inv-loop μ-loop
-returns c = ?
+returns c =
+    let s = c .before .before .before .args in
+    let e : c .before .loop .k ≡ s .n = search needs in
+    rw e at (c .before .loop .inv .2) ∙ ap (put (s .g .now) (s .at)) (each-map manifoldWords manifoldOf (take (s .n) (s .t3)))
 
 pub store-list-spec : {M : Type 1} → statement M
 store-list-spec =
     tie.close
-    (tie.spec
-    Inv-loop
-    μ-loop
-    loop-holds
-    mul-m
-    array-copy-out-m
-    mul-store-manifold
-    add-store-manifold
-    store-manifold-requires
-    add-k
-    loop-less
-    loop-again
-    same-length
-    returns)
+    (tie.spec Inv-loop μ-loop loop-holds (search needs) (search needs) (search needs) (search needs) store-manifold-requires (search needs)
+    (search needs) loop-again (search needs) returns)
