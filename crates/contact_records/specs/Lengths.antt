@@ -34,7 +34,7 @@ pub length-flags : (f : PairFlags) → length (flagsWords f) ≡ 9
 unfolding flagsWords
 length-flags f = refl
 
-length-optional : (n : Option ℕ) → length (optionalWords n) ≡ 2
+pub length-optional : (n : Option ℕ) → length (optionalWords n) ≡ 2
 unfolding optionalWords
 length-optional none = refl
 length-optional (some n) = refl

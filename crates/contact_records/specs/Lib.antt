@@ -4,8 +4,12 @@ pub mod Written
 pub mod Counts
 pub mod StateViews
 pub mod Made
+pub mod Ints
 pub mod Lists
 pub mod Lengths
 pub mod Stored
 pub mod Held
+pub mod Fit
 pub mod Apart
+pub mod Back
+pub mod Fits

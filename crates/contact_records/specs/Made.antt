@@ -1,5 +1,9 @@
 -- Structs made of words, field by field: what each call gives, put together. Assumes nothing.
-use mathlib.Core.Path.{_≡_, ap, _∙_}
+use mathlib.Core.Path.{_≡_, sym, ap, _∙_}
+use mathlib.Core.Bool.{false, cond}
+use mathlib.Core.Option.{Option, none, some}
+use lib.Dec.{eqb}
+use borrow.Author.Tests.{ne-eqb}
 use Prim.Native.Nat.{ℕ, _+_, _*_, _≤_, _<_}
 use native.Mathlib.Nat.{add-zero, add-assoc, eq-or-lt-of-le}
 use native.Mathlib.Omega.{arith}
@@ -8,18 +12,19 @@ use mathlib.Core.List.{List, map}
 use lib.ListN.{length, getD, take, set}
 use lib.Seq.{getD-set-same, getD-set-other}
 use lib.Ieee.{Float, binary32, ofBits}
+use Rattle.math.specs.declared.quat.Quat.{Quat}
 use Rattle.math.specs.declared.vec.Vec3.{Vec3}
 use Rattle.rows.specs.Rows.{part}
 use Rattle.rows.specs.Laws.{getD-part-lit}
 use Rattle.rows.specs.Slots.{upto}
-use Rattle.rules.specs.Records.{Point, Manifold, PairFlags}
+use Rattle.rules.specs.Records.{Point, Manifold, Cache, PairFlags}
 use Rattle.contact_types.specs.Views.{pointOf, pointsOf, manifoldOf, manifoldsOf}
 use Rattle.contact_types.specs.declared.contact_manifold.ContactManifold.{ContactManifold}
 use Rattle.contact_types.specs.declared.contact_manifold.ContactManifolds.{ContactManifolds}
 use Rattle.contact_types.specs.declared.contact_point.ContactPoint.{ContactPoint}
-use Rattle.words.specs.Words.{wordAt, floatAt, vec3At}
+use Rattle.words.specs.Words.{wordAt, floatAt, vec3At, quatAt}
 use Rattle.contact_records.specs.Counts.{FewPoints, LoadedManifold, LoadedManifolds}
-use Rattle.contact_records.specs.Recorded.{pointAt, pointsAt, manifoldAt, manifoldsAt, flagsAt}
+use Rattle.contact_records.specs.Recorded.{pointAt, pointsAt, manifoldAt, manifoldsAt, cacheAt, flagsAt}
 
 -- a vector, of its words
 abbrev pub vec3By : ℕ → ℕ → ℕ → Vec3
@@ -57,6 +62,18 @@ flags-loaded xs at e q = q ∙ ap (λ (vs : List ℕ). flagsAt vs 0) e ∙ flags
   where
     flags-of-part : flagsAt (part xs at 9) 0 ≡ flagsAt xs at
     flags-of-part = simp (getD-part-lit, add-zero)
+
+pub cache-loaded : (xs : List ℕ) (at : ℕ) {w : ℕ} {a b d : Quat} {t : Vec3}
+    → w ≡ wordAt xs at → w ≡ 1 → a ≡ quatAt xs (at + 1) → b ≡ quatAt xs (at + 5) → t ≡ vec3At xs (at + 9) → d ≡ quatAt xs (at + 12)
+    → _≡_ {A = Option Cache} (some (record { rotation1 = a; rotation2 = b; relativeTranslation = t; relativeRotation = d })) (cacheAt xs at)
+unfolding cacheAt
+cache-loaded xs at e m a b t d =
+    (λ i. some (record { rotation1 = a i; rotation2 = b i; relativeTranslation = t i; relativeRotation = d i }))
+    ∙ ap (λ (w : ℕ). cond (eqb w 1) (some (record { rotation1 = quatAt xs (at + 1); rotation2 = quatAt xs (at + 5); relativeTranslation = vec3At xs (at + 9); relativeRotation = quatAt xs (at + 12) })) none) (sym m ∙ e)
+
+pub cache-none : (xs : List ℕ) (at : ℕ) {w : ℕ} → w ≡ wordAt xs at → (w ≡ 1 → ⊥) → _≡_ {A = Option Cache} none (cacheAt xs at)
+unfolding cacheAt
+cache-none xs at {w} e n = let z : eqb (wordAt xs at) 1 ≡ false = ne-eqb (wordAt xs at) 1 (λ h. n (e ∙ h)) in rw z
 
 -- one more manifold in the array
 pub few-step : (list : List ContactManifold) (k : ℕ) (m : ContactManifold) → FewPoints list k → m .count ≤ 4 → k < length list → FewPoints (set list k m) (k + 1)

@@ -90,7 +90,7 @@ pub fn word_of_int(i: i32) -> u32
     ensures { λ r. ⌜ r ≡ intWord i ⌝ }
 {
     if i < 0 {
-        (i as i64 + 4294967296) as u32
+        0xffff_ffff - (-1 - i) as u32
     } else {
         i as u32
     }
@@ -102,7 +102,7 @@ pub fn int_of_word(w: u32) -> i32
     if w < 0x8000_0000 {
         w as i32
     } else {
-        (w as i64 - 4294967296) as i32
+        -1 - (0xffff_ffff - w) as i32
     }
 }
 
@@ -116,15 +116,17 @@ pub fn load_cache(g: &[u32], at: usize) -> RecyclingCache
     requires { ⌜ at + 16 ≤ length (now g) ⌝ }
     ensures { λ r. ⌜ cacheOf r ≡ cacheAt (now (g .entry)) at ⌝ }
 {
-    if load_word(g, at) != 1 {
-        return RecyclingCache::Nothing;
+    let mark = load_word(g, at);
+    if mark == 1 {
+        RecyclingCache::Cached(ContactRecyclingCache {
+            rotation1: load_quat(g, at + 1),
+            rotation2: load_quat(g, at + 5),
+            relative_translation: load_vec3(g, at + 9),
+            relative_rotation: load_quat(g, at + 12),
+        })
+    } else {
+        RecyclingCache::Nothing
     }
-    RecyclingCache::Cached(ContactRecyclingCache {
-        rotation1: load_quat(g, at + 1),
-        rotation2: load_quat(g, at + 5),
-        relative_translation: load_vec3(g, at + 9),
-        relative_rotation: load_quat(g, at + 12),
-    })
 }
 
 fn cached_words(c: ContactRecyclingCache) -> [u32; 16]

@@ -1,0 +1,95 @@
+-- What is loaded fits: every float is read from a word, and the lists are as long as the counts say. Assumes nothing.
+use mathlib.Core.Path.{_≡_, refl, sym, ap, _∙_, subst}
+use Prim.Native.Nat.{ℕ, _+_, _*_, _≤_, _<_}
+use native.Mathlib.Omega.{arith}
+use mathlib.Core.Bool.{Bool, true, false, cond}
+use mathlib.Core.List.{List, map}
+use mathlib.Core.Option.{Option, none, some}
+use lib.Ieee.{binary32, fits, ofBits}
+use lib.Ieee.Bits.{ofBits-fits, is-true}
+use lib.ListN.{length, getD}
+use Rattle.rows.specs.Slots.{upto}
+use Rattle.rules.specs.Records.{Point, Manifold, Cache, Pair}
+use Rattle.words.specs.Words.{wordAt, floatAt, vec3At, quatAt}
+use Rattle.contact_records.specs.Counts.{Counted}
+use Rattle.contact_records.specs.Fit.{FitFloat, FitVec3, FitQuat, FitPoint, FitPoints, FitManifold, FitManifolds, FitCache, FitCached, FitPair}
+use Rattle.contact_records.specs.Ints.{int-fits}
+use Rattle.contact_records.specs.Layout as place
+use Rattle.contact_records.specs.Lists.{getD-map-upto, length-map-upto}
+use Rattle.contact_records.specs.Recorded.{markAt, pointAt, pointsAt, manifoldAt, manifoldsAt, cacheAt, pairAt}
+
+module _ (xs : List ℕ) where
+  float-fits : (at : ℕ) → FitFloat (floatAt xs at)
+  float-fits at = is-true (fits binary32 (floatAt xs at)) (ofBits-fits binary32 (getD xs at 0))
+
+  pub vec3-fits : (at : ℕ) → FitVec3 (vec3At xs at)
+  vec3-fits at = record { x = float-fits at; y = float-fits (at + 1); z = float-fits (at + 2) }
+
+  pub quat-fits : (at : ℕ) → FitQuat (quatAt xs at)
+  quat-fits at = record { x = float-fits at; y = float-fits (at + 1); z = float-fits (at + 2); w = float-fits (at + 3) }
+
+  pub point-fits : (at : ℕ) → FitPoint (pointAt xs at)
+  unfolding pointAt
+  point-fits at =
+      record {
+        anchor1 = vec3-fits at;
+        anchor2 = vec3-fits (at + 3);
+        point = vec3-fits (at + 6);
+        penetration = float-fits (at + 9);
+        basePenetration = float-fits (at + 10);
+        normalImpulse = float-fits (at + 11);
+        normalSpeed = float-fits (at + 12);
+        warmStartNormal = float-fits (at + 13);
+        warmStartTangent1 = float-fits (at + 14);
+        warmStartTangent2 = float-fits (at + 15);
+      }
+
+  pub points-fit : (at n : ℕ) → n ≤ 4 → FitPoints (pointsAt xs at n)
+  unfolding pointsAt
+  points-fit at n l =
+      let f : ℕ → Point = λ (k : ℕ). pointAt xs (at + k * 18) in
+      let e = length-map-upto f n in
+      record { few = rw e l; each = λ k d h. subst FitPoint (sym (getD-map-upto f n k d (rw e at h))) (point-fits (at + k * 18)) }
+
+  pub manifold-fits : (at : ℕ) → wordAt xs at ≤ 4 → FitManifold (manifoldAt xs at)
+  unfolding manifoldAt
+  manifold-fits at l =
+      record {
+        points = points-fit (at + 9) (wordAt xs at) l;
+        normal = vec3-fits (at + 1);
+        friction = float-fits (at + 4);
+        restitution = float-fits (at + 5);
+        tangentVelocity = vec3-fits (at + 6);
+      }
+
+  pub manifolds-fit : (at : ℕ) → Counted xs at → FitManifolds (manifoldsAt xs at)
+  unfolding manifoldsAt
+  manifolds-fit at c =
+      let f : ℕ → Manifold = λ (k : ℕ). manifoldAt xs (at + 1 + k * 81) in
+      let n = wordAt xs at in
+      let e = length-map-upto f n in
+      record {
+        few = rw e (c .manifolds);
+        each = λ k d h. let l : k < n = rw e at h in subst FitManifold (sym (getD-map-upto f n k d l)) (manifold-fits (at + 1 + k * 81) (c .points k l));
+      }
+
+  pub cache-fits : (at : ℕ) → FitCached (cacheAt xs at)
+  unfolding cacheAt
+  cache-fits at = record { each = go (markAt xs at) }
+    where
+      go : (b : Bool) (c : Cache) → cond b (some (record { rotation1 = quatAt xs (at + 1); rotation2 = quatAt xs (at + 5); relativeTranslation = vec3At xs (at + 9); relativeRotation = quatAt xs (at + 12) })) none ≡ some c → FitCache c
+      go true c e =
+          let p : FitCache (record { rotation1 = quatAt xs (at + 1); rotation2 = quatAt xs (at + 5); relativeTranslation = vec3At xs (at + 9); relativeRotation = quatAt xs (at + 12) }) =
+            record { rotation1 = quat-fits (at + 1); rotation2 = quat-fits (at + 5); relativeTranslation = vec3-fits (at + 9); relativeRotation = quat-fits (at + 12) } in
+          subst FitCache (let q : record { rotation1 = quatAt xs (at + 1); rotation2 = quatAt xs (at + 5); relativeTranslation = vec3At xs (at + 9); relativeRotation = quatAt xs (at + 12) } ≡ c = cc in q) p
+      go false c e = absurd (let z : _≡_ {A = ℕ} 0 1 = cc in omega arith)
+
+  pub pair-fits : (at id : ℕ) → Counted xs (at + place.manifoldsPlace) → FitPair (pairAt xs at id)
+  unfolding pairAt
+  pair-fits at id c =
+      record {
+        manifolds = manifolds-fit (at + 36) c;
+        countChange = int-fits (wordAt xs (at + 18));
+        speculative = float-fits (at + 19);
+        cache = cache-fits (at + 20);
+      }
