@@ -13,3 +13,4 @@ pub mod Fit
 pub mod Apart
 pub mod Back
 pub mod Fits
+pub mod New
