@@ -26,6 +26,7 @@ use Rattle.contact_records.specs.Ints.{int-back}
 use Rattle.contact_records.specs.Layout as place
 use Rattle.contact_records.specs.Lengths.{length-point, length-manifold, length-flags, length-cache, length-optional, length-names, length-edge, length-state, length-contact}
 use Rattle.contact_records.specs.Lists.{map-upto-is, padded-is}
+use Rattle.contact_records.specs.Made.{cachedAt}
 use Rattle.contact_records.specs.Recorded.{markAt, optionalAt, intOf, pointAt, pointsAt, manifoldAt, manifoldsAt, cacheAt, flagsAt, namesAt, edgeAt, pairAt}
 use Rattle.contact_records.specs.Written.{markWord, zeros, padded, optionalWords, intWord, pointWords, manifoldWords, manifoldsWords, cacheWords, flagsWords, namesWords, edgeWords, stateWords, contactWords}
 
@@ -114,8 +115,8 @@ module _ {xs : List ℕ} where
         friction = float-back (m .friction) (f .friction) (word-held s 4 tt) i;
         restitution = float-back (m .restitution) (f .restitution) (word-held s 5 tt) i;
         tangentVelocity =
-          vec3-held (m .tangentVelocity) (f .tangentVelocity)
-          (holds-right (length (m .points) ∷ vec3Words (m .normal) ++ (floatWord (m .friction) ∷ floatWord (m .restitution) ∷ [])) (vec3Words (m .tangentVelocity)) 6 refl s) i;
+            vec3-held (m .tangentVelocity) (f .tangentVelocity)
+            (holds-right (length (m .points) ∷ vec3Words (m .normal) ++ (floatWord (m .friction) ∷ floatWord (m .restitution) ∷ [])) (vec3Words (m .tangentVelocity)) 6 refl s) i;
       }
 
   -- the words of the manifolds after their number
@@ -148,8 +149,8 @@ module _ {xs : List ℕ} where
       record {
         manifolds = rw e (f .few);
         points = λ k l. let j : k < length (m ∷ ms) = rw e at l in
-          rw (manifold-count (getD (m ∷ ms) k m) (holds-each manifoldWords 81 length-manifold (at + 1) (m ∷ ms) k m j (manifolds-rest (m ∷ ms) (f .few) h)))
-          (f .each k m j .points .few);
+            rw (manifold-count (getD (m ∷ ms) k m) (holds-each manifoldWords 81 length-manifold (at + 1) (m ∷ ms) k m j (manifolds-rest (m ∷ ms) (f .few) h)))
+            (f .each k m j .points .few);
       }
 
   pub cache-held : {at : ℕ} (c : Option Cache) → FitCached c → Holds xs at (cacheWords c) → cacheAt xs at ≡ c
@@ -159,7 +160,7 @@ module _ {xs : List ℕ} where
       let g = f .each c refl in
       let a : List ℕ = 1 ∷ quatWords (c .rotation1) in
       let b : List ℕ = a ++ quatWords (c .rotation2) in
-      ap (λ (w : ℕ). cond (eqb w 1) (some (record { rotation1 = quatAt xs (at + 1); rotation2 = quatAt xs (at + 5); relativeTranslation = vec3At xs (at + 9); relativeRotation = quatAt xs (at + 12) })) none) (first-held h)
+      ap (λ (w : ℕ). cond (eqb w 1) (some (cachedAt xs at)) none) (first-held h)
       ∙ (λ i. some (record {
         rotation1 = quat-held (c .rotation1) (g .rotation1) (holds-left (quatWords (c .rotation1)) _ (holds-right (1 ∷ []) _ 1 refl h)) i;
         rotation2 = quat-held (c .rotation2) (g .rotation2) (holds-left (quatWords (c .rotation2)) _ (holds-right a _ 5 refl h)) i;

@@ -16,6 +16,7 @@ use Rattle.contact_records.specs.Fit.{FitFloat, FitVec3, FitQuat, FitPoi
 use Rattle.contact_records.specs.Ints.{int-fits}
 use Rattle.contact_records.specs.Layout as place
 use Rattle.contact_records.specs.Lists.{getD-map-upto, length-map-upto}
+use Rattle.contact_records.specs.Made.{cachedAt}
 use Rattle.contact_records.specs.Recorded.{markAt, pointAt, pointsAt, manifoldAt, manifoldsAt, cacheAt, pairAt}
 
 module _ (xs : List ℕ) where
@@ -77,11 +78,11 @@ module _ (xs : List ℕ) where
   unfolding cacheAt
   cache-fits at = record { each = go (markAt xs at) }
     where
-      go : (b : Bool) (c : Cache) → cond b (some (record { rotation1 = quatAt xs (at + 1); rotation2 = quatAt xs (at + 5); relativeTranslation = vec3At xs (at + 9); relativeRotation = quatAt xs (at + 12) })) none ≡ some c → FitCache c
-      go true c e =
-          let p : FitCache (record { rotation1 = quatAt xs (at + 1); rotation2 = quatAt xs (at + 5); relativeTranslation = vec3At xs (at + 9); relativeRotation = quatAt xs (at + 12) }) =
-            record { rotation1 = quat-fits (at + 1); rotation2 = quat-fits (at + 5); relativeTranslation = vec3-fits (at + 9); relativeRotation = quat-fits (at + 12) } in
-          subst FitCache (let q : record { rotation1 = quatAt xs (at + 1); rotation2 = quatAt xs (at + 5); relativeTranslation = vec3At xs (at + 9); relativeRotation = quatAt xs (at + 12) } ≡ c = cc in q) p
+      here : FitCache (cachedAt xs at)
+      here = record { rotation1 = quat-fits (at + 1); rotation2 = quat-fits (at + 5); relativeTranslation = vec3-fits (at + 9); relativeRotation = quat-fits (at + 12) }
+
+      go : (b : Bool) (c : Cache) → cond b (some (cachedAt xs at)) none ≡ some c → FitCache c
+      go true c e = subst FitCache (let q : cachedAt xs at ≡ c = cc in q) here
       go false c e = absurd (let z : _≡_ {A = ℕ} 0 1 = cc in omega arith)
 
   pub pair-fits : (at id : ℕ) → Counted xs (at + place.manifoldsPlace) → FitPair (pairAt xs at id)

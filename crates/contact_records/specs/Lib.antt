@@ -14,3 +14,4 @@ pub mod Apart
 pub mod Back
 pub mod Fits
 pub mod New
+pub mod Parts

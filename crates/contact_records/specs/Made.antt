@@ -63,13 +63,17 @@ flags-loaded xs at e q = q ∙ ap (λ (vs : List ℕ). flagsAt vs 0) e ∙ flags
     flags-of-part : flagsAt (part xs at 9) 0 ≡ flagsAt xs at
     flags-of-part = simp (getD-part-lit, add-zero)
 
+-- the poses at a place
+abbrev pub cachedAt : List ℕ → ℕ → Cache
+cachedAt xs at = record { rotation1 = quatAt xs (at + 1); rotation2 = quatAt xs (at + 5); relativeTranslation = vec3At xs (at + 9); relativeRotation = quatAt xs (at + 12) }
+
 pub cache-loaded : (xs : List ℕ) (at : ℕ) {w : ℕ} {a b d : Quat} {t : Vec3}
     → w ≡ wordAt xs at → w ≡ 1 → a ≡ quatAt xs (at + 1) → b ≡ quatAt xs (at + 5) → t ≡ vec3At xs (at + 9) → d ≡ quatAt xs (at + 12)
     → _≡_ {A = Option Cache} (some (record { rotation1 = a; rotation2 = b; relativeTranslation = t; relativeRotation = d })) (cacheAt xs at)
 unfolding cacheAt
 cache-loaded xs at e m a b t d =
     (λ i. some (record { rotation1 = a i; rotation2 = b i; relativeTranslation = t i; relativeRotation = d i }))
-    ∙ ap (λ (w : ℕ). cond (eqb w 1) (some (record { rotation1 = quatAt xs (at + 1); rotation2 = quatAt xs (at + 5); relativeTranslation = vec3At xs (at + 9); relativeRotation = quatAt xs (at + 12) })) none) (sym m ∙ e)
+    ∙ ap (λ (w : ℕ). cond (eqb w 1) (some (cachedAt xs at)) none) (sym m ∙ e)
 
 pub cache-none : (xs : List ℕ) (at : ℕ) {w : ℕ} → w ≡ wordAt xs at → (w ≡ 1 → ⊥) → _≡_ {A = Option Cache} none (cacheAt xs at)
 unfolding cacheAt
