@@ -39,6 +39,10 @@ bodyFits mark body = isMark mark && cond (eqb mark 1) (ltb body bodies) true
 abbrev pub optional : ℕ → ℕ → Option ℕ
 optional mark n = cond (eqb mark 1) (some n) none
 
+-- the word behind a mark
+abbrev pub bodyWord : ℕ → ℕ → ℕ
+bodyWord mark n = cond (eqb mark 1) n 0
+
 -- refusal 2 of the addition itself
 unfoldable pub requestFits : Request → Bool
 requestFits a =

@@ -9,6 +9,7 @@ pub mod Checked
 pub mod Calls
 pub mod LookUp
 pub mod Removing
+pub mod Adding
 pub mod Promises
 pub mod Zeros
 pub mod LayOutLaws
@@ -19,3 +20,4 @@ pub mod RemoveKeeps
 pub mod LaidOutLaws
 pub mod CallLaws
 pub mod LookUpLaws
+pub mod AddLaws

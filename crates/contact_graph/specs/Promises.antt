@@ -6,7 +6,7 @@ use mathlib.Core.Bool.{cond}
 use mathlib.Core.List.{List}
 use lib.Dec.{eqb}
 use Rattle.contact_types.specs.Refusals.{numberOf}
-use Rattle.contact_graph.specs.Calls.{layOutRefusal, laidOut, idRefusal, removedWords}
+use Rattle.contact_graph.specs.Calls.{layOutRefusal, laidOut, addRefusal, newIdOf, addedWords, idRefusal, removedWords}
 use Rattle.contact_graph.specs.declared.lay_out.LayOutAnswer.{LayOutAnswer}
 use Rattle.contact_graph.specs.declared.lay_out.LayOutAnswer.the-variants as lay-out
 use Rattle.contact_graph.specs.declared.remove.RemoveAnswer.{RemoveAnswer}
@@ -14,6 +14,9 @@ use Rattle.contact_graph.specs.declared.remove.RemoveAnswer.the-variants
 use Rattle.contact_graph.specs.LookUp.{Edge, edgeValue, edgeOf}
 use Rattle.contact_graph.specs.declared.look_up.LookUpAnswer.{LookUpAnswer}
 use Rattle.contact_graph.specs.declared.look_up.LookUpAnswer.the-variants as look-up
+use Rattle.contact_graph.specs.declared.add.AddAnswer.{AddAnswer}
+use Rattle.contact_graph.specs.declared.add.AddAnswer.the-variants as add
+use Rattle.contact_graph.specs.declared.call.Request.{Request}
 
 -- where a call answers nothing but that it was done
 pub data Answer : Type 0 where
@@ -52,3 +55,16 @@ lookUpAnswer (look-up.Refused r) = refusedEdge (numberOf r)
 -- The lent graph is read only.
 pub record LookedUp (g : List ℕ) (id : ℕ) (r : LookUpAnswer) : Type 0 where
   pub answer : lookUpAnswer r ≡ cond (eqb (idRefusal g id) 0) (found (edgeOf g id)) (refusedEdge (idRefusal g id))
+
+-- a new id, or a refusal
+pub data IdAnswer : Type 0 where
+  refusedId : ℕ → IdAnswer
+  added : ℕ → IdAnswer
+
+abbrev pub addAnswer : AddAnswer → IdAnswer
+addAnswer (add.Added id) = added (id .0)
+addAnswer (add.Refused r) = refusedId (numberOf r)
+
+pub record Added (before : List ℕ) (a : Request) (after : List ℕ) (r : AddAnswer) : Type 0 where
+  pub answer : addAnswer r ≡ cond (eqb (addRefusal before a) 0) (added (newIdOf before)) (refusedId (addRefusal before a))
+  pub graph : after ≡ cond (eqb (addRefusal before a) 0) (addedWords before a) before
