@@ -1,25 +1,22 @@
 -- A record is what its words say: two rows with the same words there have the same record, so a store apart from it leaves it. Assumes nothing.
-use mathlib.Core.Path.{_≡_, refl, sym, ap, _∙_, subst}
+use mathlib.Core.Path.{_≡_, ap, _∙_}
 use Prim.Native.Nat.{ℕ, suc, _+_, _*_, _≤_, _<_}
-use native.Mathlib.Nat.{add-assoc, suc-mul, mul-le-mul-right}
+use native.Mathlib.Nat.{suc-mul, mul-le-mul-right}
 use native.Mathlib.Omega.{arith}
 use mathlib.Core.Bool.{cond}
 use mathlib.Core.List.{List, map}
-use mathlib.Core.Option.{Option, none, some}
+use mathlib.Core.Option.{none, some}
 use lib.Dec.{eqb, lit≤}
 use lib.Ieee.{binary32, ofBits}
 use lib.ListN.{length}
-use Rattle.math.specs.declared.quat.Quat.{Quat}
-use Rattle.math.specs.declared.vec.Vec3.{Vec3}
 use Rattle.rows.specs.Rows.{put, Apart}
 use Rattle.rows.specs.Slots.{upto}
-use Rattle.rules.specs.Records.{Point, Manifold, Cache, PairFlags, Names, EdgeFlags, Pair}
-use Rattle.words.specs.Words.{wordAt, floatAt, vec3At, quatAt}
+use Rattle.words.specs.Words.{wordAt, vec3At, quatAt}
 use Rattle.contact_records.specs.Counts.{Counted}
 use Rattle.contact_records.specs.Held.{Same, same-in, word-same, first-same, same-put}
 use Rattle.contact_records.specs.Lists.{map-upto-same}
 use Rattle.contact_records.specs.Layout as place
-use Rattle.contact_records.specs.Recorded.{markAt, optionalAt, intOf, pointAt, pointsAt, manifoldAt, manifoldsAt, cacheAt, flagsAt, namesAt, edgeAt, pairAt}
+use Rattle.contact_records.specs.Recorded.{optionalAt, intOf, pointAt, pointsAt, manifoldAt, manifoldsAt, cacheAt, flagsAt, namesAt, edgeAt, pairAt}
 
 -- place k of an array of structs
 row-in : (n size count k : ℕ) → k < n → n ≤ count → k * size + size ≤ count * size

@@ -1,6 +1,6 @@
 -- A row that holds a record's words has that record there: what was stored is loaded. Assumes nothing.
 use mathlib.Core.Path.{_≡_, refl, sym, ap, _∙_, subst}
-use Prim.Native.Nat.{ℕ, zero, suc, _+_, _*_, _-_, _≤_, _<_}
+use Prim.Native.Nat.{ℕ, suc, _+_, _*_, _-_, _≤_, _<_}
 use native.Mathlib.Nat.{add-assoc, mul-le-mul-right}
 use native.Mathlib.Omega.{arith}
 use mathlib.Core.Logic.{inl}
@@ -8,7 +8,7 @@ use mathlib.Core.Bool.{Bool, true, false, cond}
 use mathlib.Core.List.{List, [], _∷_, _++_, map}
 use mathlib.Core.Option.{Option, none, some}
 use lib.Dec.{T, eqb, lit≤}
-use lib.Ieee.{Float, binary32, fits, ofBits, toBits}
+use lib.Ieee.{Float, binary32, ofBits}
 use lib.ListN.{length, getD, length-append}
 use Rattle.math.specs.Laws.{bits-back}
 use Rattle.math.specs.declared.quat.Quat.{Quat}
@@ -17,17 +17,17 @@ use Rattle.rows.specs.Rows.{put, each}
 use Rattle.rows.specs.EachLaws.{length-each}
 use Rattle.rows.specs.Slots.{upto}
 use Rattle.rules.specs.Records.{Point, Manifold, Cache, PairFlags, Names, EdgeFlags, Pair}
-use Rattle.words.specs.Words.{wordAt, floatAt, vec3At, quatAt, floatWord, vec3Words, quatWords}
+use Rattle.words.specs.Words.{wordAt, vec3At, quatAt, floatWord, vec3Words, quatWords}
 use Rattle.contact_records.specs.Apart.{names-same, edge-same}
 use Rattle.contact_records.specs.Counts.{Counted}
-use Rattle.contact_records.specs.Fit.{FitFloat, FitVec3, FitQuat, FitPoint, FitPoints, FitManifold, FitManifolds, FitCache, FitCached, FitPair}
+use Rattle.contact_records.specs.Fit.{FitFloat, FitVec3, FitQuat, FitPoint, FitPoints, FitManifold, FitManifolds, FitCached, FitPair}
 use Rattle.contact_records.specs.Held.{Holds, put-holds, holds-at, holds-left, holds-right, holds-each, word-held, first-held, same-put}
 use Rattle.contact_records.specs.Ints.{int-back}
 use Rattle.contact_records.specs.Layout as place
 use Rattle.contact_records.specs.Lengths.{length-point, length-manifold, length-flags, length-cache, length-optional, length-names, length-edge, length-state, length-contact}
 use Rattle.contact_records.specs.Lists.{map-upto-is, padded-is}
 use Rattle.contact_records.specs.Made.{cachedAt}
-use Rattle.contact_records.specs.Recorded.{markAt, optionalAt, intOf, pointAt, pointsAt, manifoldAt, manifoldsAt, cacheAt, flagsAt, namesAt, edgeAt, pairAt}
+use Rattle.contact_records.specs.Recorded.{optionalAt, intOf, pointAt, pointsAt, manifoldAt, manifoldsAt, cacheAt, flagsAt, namesAt, edgeAt, pairAt}
 use Rattle.contact_records.specs.Written.{markWord, zeros, padded, optionalWords, intWord, pointWords, manifoldWords, manifoldsWords, cacheWords, flagsWords, namesWords, edgeWords, stateWords, contactWords}
 
 -- a pair with the state of another: what a full update stores

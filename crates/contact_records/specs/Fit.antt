@@ -2,14 +2,13 @@
 use mathlib.Core.Path.{_≡_}
 use mathlib.Core.Bool.{true}
 use mathlib.Core.List.{List}
-use mathlib.Core.Option.{Option, none, some}
+use mathlib.Core.Option.{Option, some}
 use Prim.Native.Nat.{ℕ, _≤_, _<_}
 use lib.Ieee.{Float, binary32, fits}
 use lib.ListN.{length, getD}
 use mir.Syntax.{w32}
 use mir.Val.{SFits}
 use Rattle.math.specs.declared.quat.Quat.{Quat}
-use Rattle.math.specs.declared.vec.Vec2.{Vec2}
 use Rattle.math.specs.declared.vec.Vec3.{Vec3}
 use Rattle.rules.specs.Limits.{storedPoints, pairManifolds}
 use Rattle.rules.specs.Records.{Point, Manifold, Cache, Pair}

@@ -1,15 +1,14 @@
 -- What is loaded fits: every float is read from a word, and the lists are as long as the counts say. Assumes nothing.
-use mathlib.Core.Path.{_≡_, refl, sym, ap, _∙_, subst}
+use mathlib.Core.Path.{_≡_, sym, subst}
 use Prim.Native.Nat.{ℕ, _+_, _*_, _≤_, _<_}
 use native.Mathlib.Omega.{arith}
 use mathlib.Core.Bool.{Bool, true, false, cond}
-use mathlib.Core.List.{List, map}
-use mathlib.Core.Option.{Option, none, some}
-use lib.Ieee.{binary32, fits, ofBits}
+use mathlib.Core.List.{List}
+use mathlib.Core.Option.{none, some}
+use lib.Ieee.{binary32, fits}
 use lib.Ieee.Bits.{ofBits-fits, is-true}
-use lib.ListN.{length, getD}
-use Rattle.rows.specs.Slots.{upto}
-use Rattle.rules.specs.Records.{Point, Manifold, Cache, Pair}
+use lib.ListN.{getD}
+use Rattle.rules.specs.Records.{Point, Manifold, Cache}
 use Rattle.words.specs.Words.{wordAt, floatAt, vec3At, quatAt}
 use Rattle.contact_records.specs.Counts.{Counted}
 use Rattle.contact_records.specs.Fit.{FitFloat, FitVec3, FitQuat, FitPoint, FitPoints, FitManifold, FitManifolds, FitCache, FitCached, FitPair}

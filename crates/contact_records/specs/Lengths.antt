@@ -1,17 +1,15 @@
 -- How many words a record has: whatever it holds, since lists are cut and filled up. Assumes nothing.
-use mathlib.Core.Path.{_≡_, refl, ap, _∙_}
-use Prim.Native.Nat.{ℕ, _+_}
+use mathlib.Core.Path.{_≡_, refl}
+use Prim.Native.Nat.{ℕ}
 use native.Mathlib.Omega.{arith}
-use mathlib.Core.List.{List, [], _∷_, _++_}
+use mathlib.Core.List.{List}
 use mathlib.Core.Option.{Option, none, some}
-use lib.IntN.{ℤ}
 use lib.ListN.{length, length-append}
 use Rattle.rows.specs.Rows.{each}
 use Rattle.rules.specs.Records.{Point, Manifold, Cache, PairFlags, Names, EdgeFlags, Pair}
 use Rattle.contact_records.specs.Layout as place
 use Rattle.contact_records.specs.Lists.{length-zeros, length-padded}
-use Rattle.contact_records.specs.Written.{intWord, optionalWords, pointWords, manifoldWords, manifoldsWords, cacheWords, flagsWords, namesWords, edgeWords, stateWords, contactWords}
-use Rattle.words.specs.Words.{floatWord}
+use Rattle.contact_records.specs.Written.{optionalWords, pointWords, manifoldWords, manifoldsWords, cacheWords, flagsWords, namesWords, edgeWords, stateWords, contactWords}
 
 pub length-point : (p : Point) → length (pointWords p) ≡ place.pointSize
 unfolding pointWords

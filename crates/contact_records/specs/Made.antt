@@ -17,10 +17,9 @@ use Rattle.math.specs.declared.vec.Vec3.{Vec3}
 use Rattle.rows.specs.Rows.{part}
 use Rattle.rows.specs.Laws.{getD-part-lit}
 use Rattle.rows.specs.Slots.{upto}
-use Rattle.rules.specs.Records.{Point, Manifold, Cache, PairFlags}
+use Rattle.rules.specs.Records.{Point, Cache, PairFlags}
 use Rattle.contact_types.specs.Views.{pointOf, pointsOf, manifoldOf, manifoldsOf}
 use Rattle.contact_types.specs.declared.contact_manifold.ContactManifold.{ContactManifold}
-use Rattle.contact_types.specs.declared.contact_manifold.ContactManifolds.{ContactManifolds}
 use Rattle.contact_types.specs.declared.contact_point.ContactPoint.{ContactPoint}
 use Rattle.words.specs.Words.{wordAt, floatAt, vec3At, quatAt}
 use Rattle.contact_records.specs.Counts.{FewPoints, LoadedManifold, LoadedManifolds}

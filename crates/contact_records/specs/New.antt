@@ -3,14 +3,13 @@ use mathlib.Core.Path.{_≡_, refl, sym, ap, _∙_}
 use Prim.Native.Nat.{ℕ, zero, suc, _+_}
 use native.Mathlib.Nat.{zero-add, suc-add}
 use native.Mathlib.Omega.{arith}
-use mathlib.Core.Bool.{Bool}
 use mathlib.Core.List.{List, [], _∷_, _++_}
 use mathlib.Core.Option.{Option, none, some}
 use lib.Dec.{lit≤, lit<}
-use lib.IntN.{pos}
 use lib.ListN.{length, length-append}
+use Rattle.rows.specs.Rows.{put}
+use Rattle.rows.specs.Laws.{put-next}
 use Rattle.rules.specs.Graph.{Addition, newPair}
-use Rattle.rules.specs.Records.{Cache, Manifold}
 use Rattle.words.specs.Words.{floatWord}
 use Rattle.contact_records.specs.Fit.{FitFloat, FitPair}
 use Rattle.contact_records.specs.Lists.{padded-is}
@@ -65,3 +64,10 @@ new-fits id a f =
       speculative = f;
       cache = record { each = λ c e. absurd (let z : _≡_ {A = ℕ} 0 1 = cc in omega arith) };
     }
+
+-- the twenty words are stored, and zeros after them
+pub new-stored : (xs : List ℕ) (at index id : ℕ) (a : Addition) {ys zs : List ℕ} → ys ≡ put xs at (newContactWords index a) → zs ≡ put ys (at + 20) (zeros 503)
+    → zs ≡ put xs at (contactWords index (newPair id a))
+new-stored xs at index id a p q =
+    q ∙ ap (λ (ys : List ℕ). put ys (at + 20) (zeros 503)) p ∙ put-next xs at (newContactWords index a) (zeros 503) 20 (length-new index a)
+    ∙ ap (put xs at) (sym (new-contact index id a))

@@ -1,8 +1,7 @@
 -- Stores of one part of a contact's record: the place in the list, the edge's marks, the pair's marks. Assumes nothing.
-use mathlib.Core.Path.{_≡_, refl, sym, ap, _∙_}
+use mathlib.Core.Path.{_≡_}
 use mathlib.Core.Logic.{inl, inr}
-use Prim.Native.Nat.{ℕ, _+_, _≤_, _<_}
-use native.Mathlib.Nat.{add-assoc}
+use Prim.Native.Nat.{ℕ, _+_, _≤_}
 use native.Mathlib.Omega.{arith}
 use mathlib.Core.List.{List, [], _∷_, _++_}
 use lib.Ieee.{binary32, ofBits}
@@ -10,13 +9,13 @@ use lib.ListN.{length, length-append}
 use Rattle.rows.specs.Rows.{put}
 use Rattle.rows.specs.Laws.{getD-put-apart}
 use Rattle.rules.specs.Records.{EdgeFlags, PairFlags, Pair}
-use Rattle.words.specs.Words.{wordAt, floatAt}
-use Rattle.contact_records.specs.Apart.{names-same, edge-same, flags-same, manifolds-same, counted-same, cache-same}
+use Rattle.words.specs.Words.{wordAt}
+use Rattle.contact_records.specs.Apart.{names-same, edge-same, flags-same, manifolds-same, cache-same}
 use Rattle.contact_records.specs.Back.{edge-held, flags-held}
 use Rattle.contact_records.specs.Counts.{Counted}
 use Rattle.contact_records.specs.Held.{Holds, put-holds, holds-left, holds-right, first-held, same-put}
 use Rattle.contact_records.specs.Layout as place
-use Rattle.contact_records.specs.Lengths.{length-optional, length-names, length-edge, length-flags, length-contact}
+use Rattle.contact_records.specs.Lengths.{length-optional, length-edge, length-flags, length-contact}
 use Rattle.contact_records.specs.Recorded.{pairAt, intOf}
 use Rattle.contact_records.specs.Written.{optionalWords, namesWords, edgeWords, flagsWords, stateWords, contactWords}
 

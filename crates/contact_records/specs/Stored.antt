@@ -1,6 +1,7 @@
 -- Stores one after another, put together: a law for each function that stores so, and for each turn of a loop. Assumes nothing.
 use mathlib.Core.Path.{_≡_, refl, sym, ap, _∙_}
-use Prim.Native.Nat.{ℕ, _+_, _*_, _-_, _≤_, _<_}
+use Prim.Native.Nat.{ℕ, _+_, _*_, _-_, _≤_}
+use native.Mathlib.Nat.{add-assoc}
 use native.Mathlib.Omega.{arith}
 use mathlib.Core.List.{List, [], _∷_, _++_, map}
 use lib.ListN.{length, take, set, length-map}
@@ -12,11 +13,12 @@ use Rattle.contact_types.specs.Views.{pointOf, pointsOf, manifoldOf, manifoldsO
 use Rattle.contact_types.specs.declared.contact_manifold.ContactManifold.{ContactManifold}
 use Rattle.contact_types.specs.declared.contact_manifold.ContactManifolds.{ContactManifolds}
 use Rattle.contact_types.specs.declared.contact_point.ContactPoint.{ContactPoint}
+use Rattle.rules.specs.Records.{Pair}
 use Rattle.words.specs.Words.{floatWord, vec3Words}
 use Rattle.contact_records.specs.Counts.{surfaceWords}
-use Rattle.contact_records.specs.Lengths.{length-manifold}
+use Rattle.contact_records.specs.Lengths.{length-manifold, length-cache}
 use Rattle.contact_records.specs.Lists.{length-zeros, zeros-next, padded-is}
-use Rattle.contact_records.specs.Written.{zeros, padded, pointWords, manifoldWords, manifoldsWords}
+use Rattle.contact_records.specs.Written.{zeros, padded, pointWords, intWord, manifoldWords, manifoldsWords, cacheWords, flagsWords, stateWords}
 
 pub zeros-step : (xs : List ℕ) (at k : ℕ) {ys : List ℕ} → ys ≡ put xs at (zeros k) → set ys (at + k) 0 ≡ put xs at (zeros (k + 1))
 zeros-step xs at k e = ap (λ (ws : List ℕ). set ws (at + k) 0) e ∙ put-next-one xs at (zeros k) 0 k (length-zeros k) ∙ ap (put xs at) (zeros-next k)
@@ -61,3 +63,24 @@ manifolds-stored xs at ms {a} l n p q r =
     let z : length ws ≡ ms .count * 81 = length-each manifoldWords 81 length-manifold us ∙ ap (λ (k : ℕ). k * 81) e in
     padded-stored 486 a (at + 1) ws (ms .count * 81) q r z (omega arith) ∙ ap (λ (ys : List ℕ). put ys (at + 1) (padded 486 ws)) p
     ∙ put-next xs at (ms .count ∷ []) (padded 486 ws) 1 refl ∙ ap (λ (k : ℕ). put xs at (k ∷ padded 486 ws)) (sym e)
+
+-- the next words, at a place that is n further
+next-stored : (xs : List ℕ) (at n m : ℕ) (vs ws : List ℕ) {a b : List ℕ} → length vs ≡ n → at + n ≡ m → a ≡ put xs at vs → b ≡ put a m ws → b ≡ put xs at (vs ++ ws)
+next-stored xs at n m vs ws l e p q =
+    q ∙ ap (λ (ys : List ℕ). put ys m ws) p ∙ ap (λ (k : ℕ). put (put xs at vs) k ws) (sym e) ∙ put-next xs at vs ws n l
+
+-- the parts of a pair's state, one after another
+pub state-stored : (xs : List ℕ) (at : ℕ) (p : Pair) {a b c d e : List ℕ}
+    → a ≡ put xs (at + 9) (flagsWords (p .flags)) → b ≡ put a (at + 18) (intWord (p .countChange) ∷ []) → c ≡ put b (at + 19) (floatWord (p .speculative) ∷ [])
+    → d ≡ put c (at + 20) (cacheWords (p .cache)) → e ≡ put d (at + 36) (manifoldsWords (p .manifolds)) → e ≡ put xs (at + 9) (stateWords p)
+unfolding stateWords flagsWords
+state-stored xs at p q r s t u =
+    let fs = flagsWords (p .flags) in
+    let f2 = fs ++ intWord (p .countChange) ∷ [] in
+    let f3 = f2 ++ floatWord (p .speculative) ∷ [] in
+    let f4 = f3 ++ cacheWords (p .cache) in
+    let n4 : length f4 ≡ 27 = omega (arith, length-cache (p .cache)) in
+    let e2 = next-stored xs (at + 9) 9 (at + 18) fs (intWord (p .countChange) ∷ []) refl (add-assoc at 9 9) q r in
+    let e3 = next-stored xs (at + 9) 10 (at + 19) f2 (floatWord (p .speculative) ∷ []) refl (add-assoc at 9 10) e2 s in
+    let e4 = next-stored xs (at + 9) 11 (at + 20) f3 (cacheWords (p .cache)) refl (add-assoc at 9 11) e3 t in
+    next-stored xs (at + 9) 27 (at + 36) f4 (manifoldsWords (p .manifolds)) n4 (add-assoc at 9 27) e4 u
