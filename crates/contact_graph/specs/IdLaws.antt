@@ -8,8 +8,8 @@ use mathlib.Core.Logic.{_⊎_, inl, inr}
 use borrow.Author.Tests.{ltb-true, ltb-false, lt-ltb, le-ltb, eqb-true, eqb-false}
 use lib.Dec.{ltb, eqb}
 use Rattle.contact_graph.specs.Recorded.{capacityOf, givenOf, listedCount, freeCount, listedAt, freeAt}
-use Rattle.contact_graph.specs.Range.{stands, isFree, InRange}
-use Rattle.contact_graph.specs.RangeLaws.{Counts, counts, stands-at, stands-found, free-found, listed-given, listed-once, free-given, free-below, free-once, free-not-standing, given-known, never-given}
+use Rattle.contact_graph.specs.Range.{stands, InRange}
+use Rattle.contact_graph.specs.RangeLaws.{stands-at, stands-found, free-found, listed-given, listed-once, free-given, free-below, free-once, free-not-standing, given-known, never-given}
 use Rattle.contact_graph.specs.Pigeonhole.{Has, Injective, covers, fits-below}
 
 -- the listed ids, and the free ones after them

@@ -3,6 +3,7 @@ pub mod Recorded
 pub mod Range
 pub mod Pigeonhole
 pub mod RangeLaws
+pub mod RangeShown
 pub mod IdLaws
 pub mod RangeSteps
 pub mod Checked

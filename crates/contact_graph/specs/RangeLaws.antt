@@ -5,18 +5,17 @@ use native.Mathlib.Omega.{arith}
 use mathlib.Core.Bool.{Bool, true, false, cond, not, _&&_, _||_, true≢false}
 use mathlib.Core.List.{List}
 use mathlib.Core.Logic.{_⊎_, inl, inr}
-use borrow.Author.Tests.{ltb-true, ltb-false, leb-true, eqb-true, eqb-false, lt-ltb, le-ltb, eq-eqb, ne-eqb, not-true}
+use borrow.Author.Tests.{ltb-true, leb-true, eqb-true, eqb-false, lt-ltb, eq-eqb, not-true}
 use lib.Dec.{T, eqb, ltb, leb}
 use lib.ListN.{length}
 use Rattle.rules.specs.Limits.{storedPoints, pairManifolds, colliders, bodies, mostContacts}
-use Rattle.rules.specs.Numbers.{every, any}
-use Rattle.rules.specs.NumberLaws.{every-at, any-at, any-none, any-found}
+use Rattle.rules.specs.Numbers.{every}
+use Rattle.rules.specs.NumberLaws.{every-at, any-at, any-found}
 use Rattle.words.specs.Words.{wordAt}
 use Rattle.contact_records.specs.Layout as record-place
 use Rattle.contact_graph.specs.Layout as place
 use Rattle.contact_graph.specs.Recorded.{capacityOf, givenOf, listedCount, freeCount, listedAt, freeAt, contactAt}
 use Rattle.contact_graph.specs.Range.{rightLength, optionalFits, namesFit, marksFit, manifoldsFit, contactFits, countsFit, listedGiven, namesBack, contactsFit, freeGiven, freeOnce, stands, isFree, freeApart, givenKnown, samePair, pairsOnce, InRange, inRange}
-use Rattle.contact_graph.specs.Pigeonhole.{Has, Injective, covers, fits-below}
 
 -- ---- tests
 pub holds : (b : Bool) → T b → b ≡ true

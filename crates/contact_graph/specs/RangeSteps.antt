@@ -1,9 +1,9 @@
 -- What the range test's functions pass to each other, and the turns of its loops. Assumes nothing.
-use mathlib.Core.Path.{_≡_, refl, sym, ap, ap₂, subst, _∙_}
+use mathlib.Core.Path.{_≡_, refl, sym, ap, subst, _∙_}
 use Prim.Native.Nat.{ℕ, zero, suc, _+_, _*_, _/_, _%_, _≤_, _<_, min, max}
 use native.Mathlib.Numerals.{add-one}
 use native.Mathlib.Omega.{arith}
-use mathlib.Core.Bool.{Bool, true, false, cond, not, _&&_, _||_, or-true, or-false, and-assoc, true≢false}
+use mathlib.Core.Bool.{Bool, true, false, cond, not, _&&_, _||_, or-true, or-false, and-assoc, and-comm, true≢false}
 use mathlib.Core.List.{List, [], _∷_}
 use mathlib.Core.Logic.{_⊎_, inl, inr}
 use borrow.Author.Tests.{ltb-true, ltb-false, eqb-true, eqb-false, lt-ltb, le-ltb, le-leb, lt-leb, eq-eqb, not-true, not-false}
@@ -17,9 +17,9 @@ use Rattle.data_structures.specs.BitVecLaws.{bit-marked, length-marked}
 use Rattle.data_structures.specs.WordLaws.{bit-zero}
 use Rattle.words.specs.Words.{wordAt}
 use Rattle.contact_records.specs.Layout as record-place
-use Rattle.contact_graph.specs.Recorded.{capacityOf, givenOf, listedCount, freeCount, listedAt, freeAt, contactAt}
-use Rattle.contact_graph.specs.Range.{rightLength, countsFit, listedGiven, namesBack, contactsFit, freeGiven, freeOnce, stands, isFree, freeApart, givenKnown, sameColliders, samePair, pairsOnce, inRange}
-use Rattle.contact_graph.specs.RangeLaws.{holds, shown, first-of, rest-of, RightLength, RecordAt, Counts, right-length, counts-fit, indexAt, given-at, fits-at, stands-by-index, Fitting, fitting}
+use Rattle.contact_graph.specs.Recorded.{capacityOf, listedCount, freeCount, listedAt, freeAt, contactAt}
+use Rattle.contact_graph.specs.Range.{countsFit, listedGiven, namesBack, contactsFit, freeGiven, freeOnce, stands, isFree, freeApart, givenKnown, sameColliders, samePair, pairsOnce, inRange}
+use Rattle.contact_graph.specs.RangeLaws.{holds, shown, first-of, rest-of, RightLength, RecordAt, Counts, counts-fit, indexAt, given-at, fits-at, stands-by-index, fitting}
 
 -- ---- tests of what was read or asked, as a branch of the code gives them
 pub refused : {r t : Bool} → r ≡ t → not r ≡ true → t ≡ false
@@ -67,9 +67,6 @@ pub record Standing (g : List ℕ) : Type 0 where
 
 pub below-at : {g : List ℕ} (p : ℕ) → ListedGiven g → p < listedCount g → listedAt g p < capacityOf g
 below-at {g} p l h = omega (arith, given-at g p (l .given) h, l .counted .counts .given)
-
-pub counted : {g : List ℕ} → rightLength g ≡ true → countsFit g ≡ true → Counted g
-counted e f = record { right = right-length e; counts = counts-fit f }
 
 -- ---- what is read of a listed contact
 module _ (g : List ℕ) {id at : ℕ} (r : RecordAt g id at) where
@@ -168,13 +165,33 @@ pub free-taken : (g : List ℕ) {k : ℕ} {bits : List ℕ} → Marked (freeAt g
 unfolding isFree
 free-taken g m e = record { each = λ id. m .each id ∙ ap (any (λ j. eqb (freeAt g j) id)) e }
 
--- the conditions on free ids together
-unfoldable pub freeFits : List ℕ → Bool
-freeFits g = freeOnce g && (freeApart g && givenKnown g)
+-- ---- the conditions in three parts: the list, the pairs, the free ids
+unfoldable pub listedFits : List ℕ → Bool
+listedFits g = countsFit g && (listedGiven g && (namesBack g && contactsFit g))
 
-pub in-range-turns : (g : List ℕ) → inRange g ≡ (countsFit g && (listedGiven g && (namesBack g && (contactsFit g && (freeGiven g && (freeFits g && pairsOnce g))))))
-unfolding inRange freeFits
-in-range-turns g = rw (and-assoc (freeOnce g) (freeApart g && givenKnown g) (pairsOnce g), and-assoc (freeApart g) (givenKnown g) (pairsOnce g))
+unfoldable pub freeFits : List ℕ → Bool
+freeFits g = freeGiven g && (freeOnce g && (freeApart g && givenKnown g))
+
+pub in-range-parts : (g : List ℕ) → inRange g ≡ (listedFits g && (pairsOnce g && freeFits g))
+unfolding inRange listedFits freeFits
+in-range-parts g = rw (and-comm (pairsOnce g) (freeGiven g && (freeOnce g && (freeApart g && givenKnown g)))) (simp and-assoc)
+
+pub listed-standing : {g : List ℕ} → RightLength g → listedFits g ≡ true → Standing g
+unfolding listedFits
+listed-standing {g} l e =
+    let r = rest-of (countsFit g) (listedGiven g && (namesBack g && contactsFit g)) e in
+    let s = rest-of (listedGiven g) (namesBack g && contactsFit g) r in
+    let n = counts-fit (first-of (countsFit g) (listedGiven g && (namesBack g && contactsFit g)) e) in
+    record {
+      listed = record { counted = record { right = l; counts = n }; given = first-of (listedGiven g) (namesBack g && contactsFit g) r };
+      back = first-of (namesBack g) (contactsFit g) s;
+    }
+
+pub contacts-known : (g : List ℕ) → listedFits g ≡ true → contactsFit g ≡ true
+unfolding listedFits
+contacts-known g e =
+    rest-of (namesBack g) (contactsFit g)
+    (rest-of (listedGiven g) (namesBack g && contactsFit g) (rest-of (countsFit g) (listedGiven g && (namesBack g && contactsFit g)) e))
 
 -- ---- pairs, by number: the lower collider times 256, and the higher
 abbrev pub pairNumber : ℕ → ℕ → ℕ

@@ -4,9 +4,10 @@ ghost use mathlib.Core.Bool.{true, _||_};
 ghost use Prim.Native.Nat.{_+_, _≤_, _<_};
 ghost use lib.ListN.{length};
 ghost use Rattle.rules.specs.Limits.{bodies};
+ghost use Rattle.contact_records.specs.Layout.{contactSize};
 ghost use Rattle.contact_graph.specs.Range.{rightLength, optionalFits, namesFit, marksFit, manifoldsFit, contactFits, countsFit, listedGiven, namesBack, contactsFit, freeGiven, stands, isFree, freeApart, givenKnown, pairsOnce, inRange};
 ghost use Rattle.contact_graph.specs.Recorded.{givenOf};
-ghost use Rattle.contact_graph.specs.RangeSteps.{Counted, ListedGiven, Standing, FreeTaken, Unmarked, FreeMarked, freeFits, pairNumber};
+ghost use Rattle.contact_graph.specs.RangeSteps.{Counted, ListedGiven, Standing, FreeTaken, Unmarked, FreeMarked, listedFits, freeFits, pairNumber};
 ghost use Rattle.words.specs.Words.{wordAt};
 ghost use Rattle.contact_graph.specs.RangeLaws.{RightLength};
 use crate::layout::BODY1_PLACE;
@@ -53,7 +54,7 @@ pub fn right_length(graph: &[u32]) -> bool
     if MOST_CONTACTS < capacity {
         return false;
     }
-    graph.len() == 4 + 2 * capacity + capacity * CONTACT_SIZE
+    graph.len() == LIST_PLACE + 2 * capacity + capacity * CONTACT_SIZE
 }
 
 // A mark, and behind a mark of 1 a body's number.
@@ -71,8 +72,9 @@ fn body_fits(graph: &[u32], at: usize) -> bool
     true
 }
 
+// The numbers of colliders and bodies in the record that begins at `at`.
 fn names_fit(graph: &[u32], at: usize) -> bool
-    requires { ⌜ at + 523 ≤ length (now graph) ⌝ }
+    requires { ⌜ at + contactSize ≤ length (now graph) ⌝ }
     ensures { λ r. ⌜ r ≡ namesFit (now (graph .entry)) at ⌝ }
 {
     if COLLIDERS <= load_word(graph, at) {
@@ -87,8 +89,9 @@ fn names_fit(graph: &[u32], at: usize) -> bool
     body_fits(graph, at + BODY2_PLACE)
 }
 
+// The edge's two marks and the pair's nine, and the cache's.
 fn marks_fit(graph: &[u32], at: usize) -> bool
-    requires { ⌜ at + 523 ≤ length (now graph) ⌝ }
+    requires { ⌜ at + contactSize ≤ length (now graph) ⌝ }
     ensures { λ r. ⌜ r ≡ marksFit (now (graph .entry)) at ⌝ }
 {
     let mut k = 0;
@@ -103,7 +106,7 @@ fn marks_fit(graph: &[u32], at: usize) -> bool
 
 // At most 6 manifolds, and at most 4 points in each that is counted.
 fn manifolds_fit(graph: &[u32], at: usize) -> bool
-    requires { ⌜ at + 523 ≤ length (now graph) ⌝ }
+    requires { ⌜ at + contactSize ≤ length (now graph) ⌝ }
     ensures { λ r. ⌜ r ≡ manifoldsFit (now (graph .entry)) at ⌝ }
 {
     let count = number_at(graph, at + MANIFOLDS_PLACE);
@@ -121,8 +124,9 @@ fn manifolds_fit(graph: &[u32], at: usize) -> bool
     true
 }
 
+// The record that begins at `at`.
 fn contact_fits(graph: &[u32], at: usize) -> bool
-    requires { ⌜ at + 523 ≤ length (now graph) ⌝ }
+    requires { ⌜ at + contactSize ≤ length (now graph) ⌝ }
     ensures { λ r. ⌜ r ≡ contactFits (now (graph .entry)) at ⌝ }
 {
     if !names_fit(graph, at) {
@@ -134,6 +138,7 @@ fn contact_fits(graph: &[u32], at: usize) -> bool
     manifolds_fit(graph, at)
 }
 
+// Ids given, listed and free: each count is at most the capacity.
 fn counts_fit(graph: &[u32]) -> bool
     requires { ⌜ RightLength (now graph) ⌝ }
     ensures { λ r. ⌜ r ≡ countsFit (now (graph .entry)) ⌝ }
@@ -199,6 +204,23 @@ fn contacts_fit(graph: &[u32]) -> bool
         p += 1;
     }
     true
+}
+
+// The counts, the list, and the records of the listed contacts.
+fn listed_fit(graph: &[u32]) -> bool
+    requires { ⌜ RightLength (now graph) ⌝ }
+    ensures { λ r. ⌜ r ≡ listedFits (now (graph .entry)) ⌝ }
+{
+    if !counts_fit(graph) {
+        return false;
+    }
+    if !listed_given(graph) {
+        return false;
+    }
+    if !names_back(graph) {
+        return false;
+    }
+    contacts_fit(graph)
 }
 
 // A free id was given.
@@ -295,9 +317,12 @@ fn given_known(graph: &[u32], marks: &[u64]) -> bool
 
 // The free ids, and those that were given.
 fn free_fit(graph: &[u32]) -> bool
-    requires { ⌜ Standing (now graph) × (freeGiven (now graph) ≡ true) ⌝ }
+    requires { ⌜ Standing (now graph) ⌝ }
     ensures { λ r. ⌜ r ≡ freeFits (now (graph .entry)) ⌝ }
 {
+    if !free_given(graph) {
+        return false;
+    }
     let mut marks = [0u64; 4];
     if !free_once(graph, &mut marks) {
         return false;
@@ -310,7 +335,7 @@ fn free_fit(graph: &[u32]) -> bool
 
 // A number for the pair of a contact's colliders, the same in either order.
 fn pair_number(graph: &[u32], at: usize) -> usize
-    requires { ⌜ (at + 523 ≤ length (now graph)) × (wordAt (now graph) at < 256) × (wordAt (now graph) (at + 1) < 256) ⌝ }
+    requires { ⌜ (at + contactSize ≤ length (now graph)) × (wordAt (now graph) at < 256) × (wordAt (now graph) (at + 1) < 256) ⌝ }
     ensures { λ r. ⌜ r ≡ pairNumber (wordAt (now (graph .entry)) at) (wordAt (now (graph .entry)) (at + 1)) ⌝ }
 {
     let a = number_at(graph, at);
@@ -352,23 +377,11 @@ pub fn in_range(graph: &[u32]) -> bool
     requires { ⌜ rightLength (now graph) ≡ true ⌝ }
     ensures { λ r. ⌜ r ≡ inRange (now (graph .entry)) ⌝ }
 {
-    if !counts_fit(graph) {
+    if !listed_fit(graph) {
         return false;
     }
-    if !listed_given(graph) {
+    if !pairs_once(graph) {
         return false;
     }
-    if !names_back(graph) {
-        return false;
-    }
-    if !contacts_fit(graph) {
-        return false;
-    }
-    if !free_given(graph) {
-        return false;
-    }
-    if !free_fit(graph) {
-        return false;
-    }
-    pairs_once(graph)
+    free_fit(graph)
 }

@@ -1,5 +1,5 @@
 -- `contact_graph::layout::free_at` meets its contract. Assumes nothing.
-use mathlib.Core.Path.{_≡_, ap, _∙_}
+use mathlib.Core.Path.{ap, _∙_}
 use Prim.Native.Nat.{ℕ, _+_}
 use Rattle.words.specs.Words.{wordAt}
 use borrow.Author.Needs.{needs}

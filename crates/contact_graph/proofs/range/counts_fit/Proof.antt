@@ -1,7 +1,4 @@
 -- `contact_graph::range::counts_fit` meets its contract: each count in its turn. Assumes nothing.
-use mathlib.Core.Path.{_≡_, ap₂, sym}
-use borrow.Author.Tests.{le-leb, lt-leb}
-use lib.Dec.{leb}
 use Rattle.contact_graph.specs.RangeSteps.{within, above}
 use Rattle.contact_graph.specs.Range.{countsFit}
 use borrow.Author.Needs.{needs}

@@ -11,7 +11,7 @@ use Rattle.rules.specs.NumberLaws.{every-next, every-fails}
 use Rattle.contact_graph.specs.Recorded.{freeAt, freeCount}
 use Rattle.contact_graph.specs.Range.{freeOnce}
 use Rattle.contact_graph.specs.RangeLaws.{freed-at}
-use Rattle.contact_graph.specs.RangeSteps.{Marked, FreeMarked, marked-none, seen, marks-next, marks-size, free-taken, every-none, every-done}
+use Rattle.contact_graph.specs.RangeSteps.{Marked, marked-none, seen, marks-next, marks-size, free-taken, every-none, every-done}
 use borrow.Author.Needs.{needs}
 use Rattle.contact_graph.proofs.range.free_once.Statement.{statement}
 use Rattle.contact_graph.proofs.range.free_once.Tie as tie

@@ -1,5 +1,5 @@
 -- `contact_graph::range::is_known` meets its contract. Assumes nothing.
-use mathlib.Core.Path.{_≡_, _∙_}
+use mathlib.Core.Path.{_∙_}
 use borrow.Author.Needs.{needs}
 use Rattle.contact_graph.proofs.range.is_known.Statement.{statement}
 use Rattle.contact_graph.proofs.range.is_known.Tie as tie

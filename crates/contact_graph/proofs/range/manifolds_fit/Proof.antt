@@ -1,8 +1,9 @@
 -- `contact_graph::range::manifolds_fit` meets its contract: the manifolds passed have at most 4 points. Assumes nothing.
-use mathlib.Core.Path.{_≡_, ap}
+use mathlib.Core.Path.{_≡_}
 use mathlib.Core.List.{List}
 use mathlib.Core.Bool.{Bool, true}
 use Prim.Native.Nat.{ℕ, _≤_, _+_, _*_, _-_}
+use borrow.Author.Tests.{le-leb, lt-leb}
 use lib.Dec.{leb}
 use Rattle.words.specs.Words.{wordAt}
 use Rattle.rules.specs.Numbers.{every}
@@ -13,8 +14,11 @@ use borrow.Author.Needs.{needs}
 use Rattle.contact_graph.proofs.range.manifolds_fit.Statement.{statement}
 use Rattle.contact_graph.proofs.range.manifolds_fit.Tie as tie
 
+abbrev points : List ℕ → ℕ → ℕ → ℕ
+points graph at k = wordAt graph (at + 36 + 1 + k * 81)
+
 abbrev test : List ℕ → ℕ → ℕ → Bool
-test graph at k = leb (wordAt graph (at + 36 + 1 + k * 81)) 4
+test graph at k = leb (points graph at k) 4
 
 abbrev Inv-loop : tie.InvT-loop
 Inv-loop graph at count k₀ k = (k ≤ count) × (every (test graph at) k ≡ true)
@@ -40,14 +44,14 @@ returns-2 c =
     rw (
       within (n .ensures) (w .before .if1 .left),
       ← n .ensures,
-      every-fails (test (a .graph .now) (a .at)) (n .result) (w .loop .k) (search needs) (above (c .before .number-at2 .ensures) (c .if2 .taken)),
+      every-fails (test (a .graph .now) (a .at)) (n .result) (w .loop .k) (search needs) (lt-leb (points (a .graph .now) (a .at) (w .loop .k)) 4 (search needs)),
     )
 
 loop-again : tie.Need-loop-again Inv-loop μ-loop
 loop-again c =
     let w = c .before .before .before in
     let a = w .before .before .before .before .args in
-    (search needs, every-next (test (a .graph .now) (a .at)) (w .loop .k) (w .loop .inv .1) (within (c .before .number-at2 .ensures) (c .if2 .left)))
+    (search needs, every-next (test (a .graph .now) (a .at)) (w .loop .k) (w .loop .inv .1) (le-leb (points (a .graph .now) (a .at) (w .loop .k)) 4 (search needs)))
 
 returns-3 : tie.Need-returns-3 Inv-loop μ-loop
 unfolding manifoldsFit

@@ -1,5 +1,5 @@
 -- `contact_graph::range::names_back` meets its contract: the contacts passed name their places. Assumes nothing.
-use mathlib.Core.Path.{_≡_, sym, _∙_}
+use mathlib.Core.Path.{_≡_, sym}
 use mathlib.Core.List.{List}
 use mathlib.Core.Bool.{Bool, true}
 use Prim.Native.Nat.{ℕ, _≤_, _-_}
@@ -41,7 +41,7 @@ returns c =
     let g = w .before .before .before .args .graph .now in
     let r = c .before .before in
     let i = index-read g (r .contact-at .ensures) (w .loop .p) (r .before .number-at2 .ensures) (c .before .number-at3 .ensures) in
-    sym (every-fails (test g) (listedCount g) (w .loop .p) (search needs) (ne-eqb _ _ (λ e. c .if1 .taken (i ∙ e))))
+    sym (every-fails (test g) (listedCount g) (w .loop .p) (search needs) (ne-eqb (indexAt g (listedAt g (w .loop .p))) (w .loop .p) (λ e. omega arith)))
 
 loop-again : tie.Need-loop-again Inv-loop μ-loop
 loop-again c =
@@ -49,7 +49,7 @@ loop-again c =
     let g = w .before .before .before .args .graph .now in
     let r = c .before .before in
     let i = index-read g (r .contact-at .ensures) (w .loop .p) (r .before .number-at2 .ensures) (c .before .number-at3 .ensures) in
-    (search needs, every-next (test g) (w .loop .p) (w .loop .inv .1) (eq-eqb _ _ (sym i ∙ c .if1 .left)))
+    (search needs, every-next (test g) (w .loop .p) (w .loop .inv .1) (eq-eqb (indexAt g (listedAt g (w .loop .p))) (w .loop .p) (omega arith)))
 
 returns-2 : tie.Need-returns-2 Inv-loop μ-loop
 unfolding namesBack

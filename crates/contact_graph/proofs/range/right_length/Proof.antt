@@ -1,8 +1,6 @@
 -- `contact_graph::range::right_length` meets its contract: each test in its turn. Assumes nothing.
-use mathlib.Core.Path.{_≡_}
 use borrow.Author.Tests.{le-ltb, lt-ltb, le-leb, lt-leb}
 use lib.ListN.{List·getD-eq-default}
-use Rattle.contact_graph.specs.RangeSteps.{within, above}
 use Rattle.contact_graph.specs.Range.{rightLength}
 use borrow.Author.Needs.{needs}
 use Rattle.contact_graph.proofs.range.right_length.Statement.{statement}
