@@ -1,3 +1,5 @@
 pub mod Layout
 pub mod Recorded
 pub mod Range
+pub mod Views
+pub mod Loaded

@@ -1,1 +1,6 @@
 // Settings, colliders and bodies in lent rows of words. From avian's collider/layers.rs, collider/mod.rs, collider_hierarchy/mod.rs and rigid_body/mod.rs.
+pub mod body_record;
+pub mod collider_record;
+pub mod layout;
+pub mod optional;
+pub mod settings;
