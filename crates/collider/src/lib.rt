@@ -3,4 +3,5 @@ pub mod body_record;
 pub mod collider_record;
 pub mod layout;
 pub mod optional;
+pub mod range;
 pub mod settings;

@@ -1,8 +1,8 @@
 -- `collider::body_record::load_body` meets its contract. Assumes nothing.
-use Rattle.collider.specs.Recorded.{bodyAt}
 use mathlib.Core.Option.{some}
 use mathlib.Core.Path.{ap}
 use borrow.Author.Needs.{needs}
+use Rattle.collider.specs.Recorded.{bodyAt}
 use Rattle.collider.proofs.body_record.load_body.Statement.{statement}
 use Rattle.collider.proofs.body_record.load_body.Tie as tie
 

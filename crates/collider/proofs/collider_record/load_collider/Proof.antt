@@ -1,8 +1,8 @@
 -- `collider::collider_record::load_collider` meets its contract. Assumes nothing.
-use Rattle.collider.specs.Recorded.{colliderAt}
 use mathlib.Core.Option.{some}
 use mathlib.Core.Path.{ap}
 use borrow.Author.Needs.{needs}
+use Rattle.collider.specs.Recorded.{colliderAt}
 use Rattle.collider.proofs.collider_record.load_collider.Statement.{statement}
 use Rattle.collider.proofs.collider_record.load_collider.Tie as tie
 

@@ -1,8 +1,8 @@
 -- `collider::optional::load_body_if` meets its contract. Assumes nothing.
-use Rattle.collider.specs.Recorded.{numberIfAt}
 use mathlib.Core.Option.{some}
 use mathlib.Core.Path.{ap}
 use borrow.Author.Needs.{needs}
+use Rattle.collider.specs.Recorded.{numberIfAt}
 use Rattle.collider.proofs.optional.load_body_if.Statement.{statement}
 use Rattle.collider.proofs.optional.load_body_if.Tie as tie
 

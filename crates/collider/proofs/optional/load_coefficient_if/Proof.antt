@@ -1,8 +1,8 @@
 -- `collider::optional::load_coefficient_if` meets its contract. Assumes nothing.
-use Rattle.collider.specs.Recorded.{coefficientIfAt}
 use mathlib.Core.Option.{some}
 use mathlib.Core.Path.{ap}
 use borrow.Author.Needs.{needs}
+use Rattle.collider.specs.Recorded.{coefficientIfAt}
 use Rattle.collider.proofs.optional.load_coefficient_if.Statement.{statement}
 use Rattle.collider.proofs.optional.load_coefficient_if.Tie as tie
 

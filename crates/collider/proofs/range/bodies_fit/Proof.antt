@@ -1,0 +1,43 @@
+-- `collider::range::bodies_fit` meets its contract. Assumes nothing.
+use mathlib.Core.Bool.{true}
+use mathlib.Core.Path.{_≡_, refl, sym, ap, _∙_}
+use Prim.Native.Nat.{_≤_, _*_, _-_}
+use borrow.Author.Tests.{not-true, not-false}
+use borrow.Author.Needs.{needs}
+use Rattle.rules.specs.NumberLaws.{every-next, every-fails}
+use Rattle.rules.specs.Numbers.{every}
+use Rattle.rules.specs.Limits.{bodies}
+use Rattle.collider.specs.Range.{bodyFits, bodiesFit}
+use Rattle.collider.specs.Layout.{bodySize}
+use Rattle.collider.proofs.range.bodies_fit.Statement.{statement}
+use Rattle.collider.proofs.range.bodies_fit.Tie as tie
+
+abbrev Inv-loop : tie.InvT-loop
+Inv-loop words n₀ n = (n ≤ bodies) × (every (λ k. bodyFits words (k * bodySize)) n ≡ true)
+
+abbrev μ-loop : tie.MeasureT-loop
+μ-loop words n₀ n = bodies - n
+
+loop-holds : tie.Need-loop-holds Inv-loop μ-loop
+unfolding every
+loop-holds c = (search needs, refl)
+
+returns : tie.Need-returns Inv-loop μ-loop
+unfolding bodiesFit
+returns c =
+    let w = c .before .before .before in
+    sym (every-fails _ bodies (w .loop .n) (c .before .before .loop-test .taken) (sym (c .before .body-fits .ensures) ∙ not-true _ (c .if1 .taken)))
+
+loop-again : tie.Need-loop-again Inv-loop μ-loop
+loop-again c = (search needs, every-next _ _ (c .before .before .before .loop .inv .1) (sym (c .before .body-fits .ensures) ∙ not-false _ (c .if1 .left)))
+
+returns-2 : tie.Need-returns-2 Inv-loop μ-loop
+unfolding bodiesFit
+returns-2 c =
+    let e : c .before .loop .n ≡ bodies = search needs in
+    sym (rw e at (c .before .loop .inv .1))
+
+pub bodies-fit-spec : {M : Type 1} → statement M
+bodies-fit-spec =
+    tie.close
+    (tie.spec Inv-loop μ-loop loop-holds (search needs) (search needs) returns (search needs) (search needs) loop-again returns-2)

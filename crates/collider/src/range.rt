@@ -1,0 +1,133 @@
+// Refusal 2 of settings, colliders and bodies: a mark not 0 or 1, a combining rule not 1 to 5, a body number of 128 or more.
+// Nothing behind a mark of 0 is tested.
+ghost use mathlib.Core.Path.{_≡_};
+ghost use Prim.Native.Nat.{_+_, _≤_, _<_};
+ghost use lib.Dec.{ltb};
+ghost use lib.ListN.{length};
+ghost use Rattle.rules.specs.Limits.{bodies};
+ghost use Rattle.words.specs.Words.{wordAt};
+ghost use Rattle.collider.specs.Layout.{settingsLength, colliderSize, collidersLength, bodySize, bodiesLength};
+ghost use Rattle.collider.specs.Range.{isMark, isRule, whereSet, coefficientFits, settingsFit, colliderFits, collidersFit, bodyFits, bodiesFit};
+ghost use Rattle.collider.specs.RangeSteps.{bodyNumberFits, colliderValuesFit, bodyValuesFit};
+use crate::layout::BODIES;
+use crate::layout::BODY_SIZE;
+use crate::layout::COLLIDER_SIZE;
+use crate::layout::COLLIDERS;
+
+fn mark_fits(words: &[u32], at: usize) -> bool
+    requires { ⌜ at < length (now words) ⌝ }
+    ensures { λ r. ⌜ r ≡ isMark (wordAt (now (words .entry)) at) ⌝ }
+{
+    words[at] < 2
+}
+
+fn rule_fits(words: &[u32], at: usize) -> bool
+    requires { ⌜ at < length (now words) ⌝ }
+    ensures { λ r. ⌜ r ≡ isRule (wordAt (now (words .entry)) at) ⌝ }
+{
+    let rule = words[at];
+    0 < rule && rule <= 5
+}
+
+// A mark, and what is asked where it is 1.
+fn where_set(mark: u32, asked: bool) -> bool
+    ensures { λ r. ⌜ r ≡ whereSet mark asked ⌝ }
+{
+    if mark == 0 {
+        return true;
+    }
+    mark == 1 && asked
+}
+
+fn body_number_fits(words: &[u32], at: usize) -> bool
+    requires { ⌜ at + 2 ≤ length (now words) ⌝ }
+    ensures { λ r. ⌜ r ≡ bodyNumberFits (now (words .entry)) at ⌝ }
+{
+    let mark = words[at];
+    let number = words[at + 1];
+    where_set(mark, number < 128)
+}
+
+fn coefficient_fits(words: &[u32], at: usize) -> bool
+    requires { ⌜ at + 3 ≤ length (now words) ⌝ }
+    ensures { λ r. ⌜ r ≡ coefficientFits (now (words .entry)) at ⌝ }
+{
+    let mark = words[at];
+    where_set(mark, rule_fits(words, at + 2))
+}
+
+pub fn settings_fit(words: &[u32]) -> bool
+    requires { ⌜ length (now words) ≡ settingsLength ⌝ }
+    ensures { λ r. ⌜ r ≡ settingsFit (now (words .entry)) ⌝ }
+{
+    mark_fits(words, 5) && (rule_fits(words, 7) && rule_fits(words, 9))
+}
+
+fn collider_values_fit(words: &[u32], at: usize) -> bool
+    requires { ⌜ at + colliderSize ≤ length (now words) ⌝ }
+    ensures { λ r. ⌜ r ≡ colliderValuesFit (now (words .entry)) at ⌝ }
+{
+    body_number_fits(words, at + 1)
+        && (coefficient_fits(words, at + 14)
+            && (coefficient_fits(words, at + 17)
+                && (mark_fits(words, at + 20) && mark_fits(words, at + 22))))
+}
+
+fn collider_fits(words: &[u32], at: usize) -> bool
+    requires { ⌜ at + colliderSize ≤ length (now words) ⌝ }
+    ensures { λ r. ⌜ r ≡ colliderFits (now (words .entry)) at ⌝ }
+{
+    let mark = words[at];
+    if mark != 1 {
+        return mark == 0;
+    }
+    collider_values_fit(words, at)
+}
+
+pub fn colliders_fit(words: &[u32]) -> bool
+    requires { ⌜ length (now words) ≡ collidersLength ⌝ }
+    ensures { λ r. ⌜ r ≡ collidersFit (now (words .entry)) ⌝ }
+{
+    let mut n = 0;
+    while n < COLLIDERS {
+        if !collider_fits(words, n * COLLIDER_SIZE) {
+            return false;
+        }
+        n += 1;
+    }
+    true
+}
+
+fn body_values_fit(words: &[u32], at: usize) -> bool
+    requires { ⌜ at + bodySize ≤ length (now words) ⌝ }
+    ensures { λ r. ⌜ r ≡ bodyValuesFit (now (words .entry)) at ⌝ }
+{
+    mark_fits(words, at + 1)
+        && (coefficient_fits(words, at + 18)
+            && (mark_fits(words, at + 21) && mark_fits(words, at + 23)))
+}
+
+fn body_fits(words: &[u32], at: usize) -> bool
+    requires { ⌜ at + bodySize ≤ length (now words) ⌝ }
+    ensures { λ r. ⌜ r ≡ bodyFits (now (words .entry)) at ⌝ }
+{
+    let mark = words[at];
+    if mark != 1 {
+        return mark == 0;
+    }
+    body_values_fit(words, at)
+}
+
+pub fn bodies_fit(words: &[u32]) -> bool
+    requires { ⌜ length (now words) ≡ bodiesLength ⌝ }
+    ensures { λ r. ⌜ r ≡ bodiesFit (now (words .entry)) ⌝ }
+{
+    let mut n = 0;
+    while n < BODIES {
+        if !body_fits(words, n * BODY_SIZE) {
+            return false;
+        }
+        n += 1;
+    }
+    true
+}
