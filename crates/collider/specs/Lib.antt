@@ -1,6 +1,9 @@
 pub mod Layout
 pub mod Recorded
 pub mod Range
-pub mod RangeSteps
 pub mod Views
+pub mod Boxes
+pub mod Tests
+pub mod RangeSteps
 pub mod Loaded
+pub mod SurfaceLaws

@@ -3,6 +3,7 @@ use Prim.Native.Nat.{ℕ}
 use mathlib.Core.Option.{Option, none, some}
 use lib.Ieee.{Float}
 use Rattle.rules.specs.Inputs as rules
+use Rattle.rules.specs.Sides as sides
 use Rattle.collider.specs.declared.optional.Coefficient.{Coefficient}
 use Rattle.collider.specs.declared.optional.OptionalCoefficient.{OptionalCoefficient}
 use Rattle.collider.specs.declared.optional.OptionalCoefficient.the-variants as coefficientIf
@@ -17,6 +18,7 @@ use Rattle.collider.specs.declared.collider_record.FoundCollider.the-var
 use Rattle.collider.specs.declared.body_record.BodyRecord.{BodyRecord}
 use Rattle.collider.specs.declared.body_record.FoundBody.{FoundBody}
 use Rattle.collider.specs.declared.body_record.FoundBody.the-variants as bodyIf
+use Rattle.collider.specs.declared.side.Side.{Side}
 
 abbrev pub plainCoefficient : Coefficient → rules.Coefficient
 plainCoefficient c = record { value = c .value; rule = c .rule }
@@ -82,3 +84,19 @@ plainBody b =
 abbrev pub plainBodyIf : FoundBody → Option rules.Body
 plainBodyIf (bodyIf.Present b) = some (plainBody b)
 plainBodyIf bodyIf.Absent = none
+
+abbrev pub plainSide : Side → sides.Side
+plainSide a =
+    record {
+      here = a .here;
+      fixed = a .fixed;
+      offset = a .offset;
+      worldCom = a .«world_com»;
+      pose = a .pose;
+      velocity = a .velocity;
+      spin = a .spin;
+      friction = plainCoefficientIf (a .friction);
+      margin = plainFloatIf (a .margin);
+      speculativeMaximum = plainFloatIf (a .«speculative_maximum»);
+      sweepRadius = a .«sweep_radius»;
+    }
