@@ -6,4 +6,4 @@ pub mod Boxes
 pub mod Tests
 pub mod RangeSteps
 pub mod Loaded
-pub mod SurfaceLaws
+pub mod RuleLaws

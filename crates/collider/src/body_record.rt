@@ -6,7 +6,16 @@ ghost use Rattle.rules.specs.Limits.{bodies};
 ghost use Rattle.collider.specs.Layout.{bodySize, bodiesLength};
 ghost use Rattle.collider.specs.Recorded.{poseAt, presentBody, bodyAt};
 ghost use Rattle.collider.specs.Views.{plainBody, plainBodyIf};
+use crate::layout::BODY_FRICTION_PLACE;
+use crate::layout::BODY_MARGIN_PLACE;
 use crate::layout::BODY_SIZE;
+use crate::layout::CENTRE_PLACE;
+use crate::layout::POSE_PLACE;
+use crate::layout::SPECULATIVE_PLACE;
+use crate::layout::SPIN_PLACE;
+use crate::layout::STATIC_PLACE;
+use crate::layout::SWEEP_PLACE;
+use crate::layout::VELOCITY_PLACE;
 use crate::optional::OptionalCoefficient;
 use crate::optional::OptionalFloat;
 use crate::optional::load_coefficient_if;
@@ -53,15 +62,15 @@ fn load_present_body(words: &[u32], at: usize) -> BodyRecord
     ensures { λ r. ⌜ plainBody r ≡ presentBody (now (words .entry)) at ⌝ }
 {
     BodyRecord {
-        fixed: load_mark(words, at + 1),
-        pose: load_pose(words, at + 2),
-        centre: load_vec3(words, at + 9),
-        velocity: load_vec3(words, at + 12),
-        spin: load_vec3(words, at + 15),
-        friction: load_coefficient_if(words, at + 18),
-        margin: load_float_if(words, at + 21),
-        speculative_maximum: load_float_if(words, at + 23),
-        sweep_radius: load_float(words, at + 25),
+        fixed: load_mark(words, at + STATIC_PLACE),
+        pose: load_pose(words, at + POSE_PLACE),
+        centre: load_vec3(words, at + CENTRE_PLACE),
+        velocity: load_vec3(words, at + VELOCITY_PLACE),
+        spin: load_vec3(words, at + SPIN_PLACE),
+        friction: load_coefficient_if(words, at + BODY_FRICTION_PLACE),
+        margin: load_float_if(words, at + BODY_MARGIN_PLACE),
+        speculative_maximum: load_float_if(words, at + SPECULATIVE_PLACE),
+        sweep_radius: load_float(words, at + SWEEP_PLACE),
     }
 }
 

@@ -6,7 +6,17 @@ ghost use Rattle.rules.specs.Limits.{colliders};
 ghost use Rattle.collider.specs.Layout.{colliderSize, collidersLength};
 ghost use Rattle.collider.specs.Recorded.{presentCollider, colliderAt};
 ghost use Rattle.collider.specs.Views.{plainCollider, plainColliderIf};
+use crate::layout::COLLIDER_BODY_PLACE;
+use crate::layout::COLLIDER_FRICTION_PLACE;
+use crate::layout::COLLIDER_MARGIN_PLACE;
+use crate::layout::COLLIDER_POSITION_PLACE;
 use crate::layout::COLLIDER_SIZE;
+use crate::layout::FILTERS_PLACE;
+use crate::layout::LOWER_PLACE;
+use crate::layout::MEMBERSHIPS_PLACE;
+use crate::layout::RESTITUTION_PLACE;
+use crate::layout::SENSOR_PLACE;
+use crate::layout::UPPER_PLACE;
 use crate::optional::OptionalBody;
 use crate::optional::OptionalCoefficient;
 use crate::optional::OptionalFloat;
@@ -42,16 +52,16 @@ fn load_present_collider(words: &[u32], at: usize) -> ColliderRecord
     ensures { λ r. ⌜ plainCollider r ≡ presentCollider (now (words .entry)) at ⌝ }
 {
     ColliderRecord {
-        body: load_body_if(words, at + 1),
-        lower: load_vec3(words, at + 3),
-        upper: load_vec3(words, at + 6),
-        position: load_vec3(words, at + 9),
-        memberships: load_word(words, at + 12),
-        filters: load_word(words, at + 13),
-        friction: load_coefficient_if(words, at + 14),
-        restitution: load_coefficient_if(words, at + 17),
-        margin: load_float_if(words, at + 20),
-        sensor: load_mark(words, at + 22),
+        body: load_body_if(words, at + COLLIDER_BODY_PLACE),
+        lower: load_vec3(words, at + LOWER_PLACE),
+        upper: load_vec3(words, at + UPPER_PLACE),
+        position: load_vec3(words, at + COLLIDER_POSITION_PLACE),
+        memberships: load_word(words, at + MEMBERSHIPS_PLACE),
+        filters: load_word(words, at + FILTERS_PLACE),
+        friction: load_coefficient_if(words, at + COLLIDER_FRICTION_PLACE),
+        restitution: load_coefficient_if(words, at + RESTITUTION_PLACE),
+        margin: load_float_if(words, at + COLLIDER_MARGIN_PLACE),
+        sensor: load_mark(words, at + SENSOR_PLACE),
     }
 }
 

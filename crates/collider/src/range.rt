@@ -10,9 +10,21 @@ ghost use Rattle.collider.specs.Layout.{settingsLength, colliderSize, co
 ghost use Rattle.collider.specs.Range.{isMark, isRule, whereSet, coefficientFits, settingsFit, colliderFits, collidersFit, bodyFits, bodiesFit};
 ghost use Rattle.collider.specs.RangeSteps.{bodyNumberFits, colliderValuesFit, bodyValuesFit};
 use crate::layout::BODIES;
+use crate::layout::BODY_FRICTION_PLACE;
+use crate::layout::BODY_MARGIN_PLACE;
 use crate::layout::BODY_SIZE;
+use crate::layout::COLLIDER_BODY_PLACE;
+use crate::layout::COLLIDER_FRICTION_PLACE;
+use crate::layout::COLLIDER_MARGIN_PLACE;
 use crate::layout::COLLIDER_SIZE;
 use crate::layout::COLLIDERS;
+use crate::layout::DEFAULT_FRICTION_PLACE;
+use crate::layout::DEFAULT_RESTITUTION_PLACE;
+use crate::layout::MATCH_PLACE;
+use crate::layout::RESTITUTION_PLACE;
+use crate::layout::SENSOR_PLACE;
+use crate::layout::SPECULATIVE_PLACE;
+use crate::layout::STATIC_PLACE;
 
 fn mark_fits(words: &[u32], at: usize) -> bool
     requires { ⌜ at < length (now words) ⌝ }
@@ -45,7 +57,7 @@ fn body_number_fits(words: &[u32], at: usize) -> bool
 {
     let mark = words[at];
     let number = words[at + 1];
-    where_set(mark, number < 128)
+    where_set(mark, number < BODIES)
 }
 
 fn coefficient_fits(words: &[u32], at: usize) -> bool
@@ -60,17 +72,20 @@ pub fn settings_fit(words: &[u32]) -> bool
     requires { ⌜ length (now words) ≡ settingsLength ⌝ }
     ensures { λ r. ⌜ r ≡ settingsFit (now (words .entry)) ⌝ }
 {
-    mark_fits(words, 5) && (rule_fits(words, 7) && rule_fits(words, 9))
+    mark_fits(words, MATCH_PLACE)
+        && (rule_fits(words, DEFAULT_FRICTION_PLACE + 1)
+            && rule_fits(words, DEFAULT_RESTITUTION_PLACE + 1))
 }
 
 fn collider_values_fit(words: &[u32], at: usize) -> bool
     requires { ⌜ at + colliderSize ≤ length (now words) ⌝ }
     ensures { λ r. ⌜ r ≡ colliderValuesFit (now (words .entry)) at ⌝ }
 {
-    body_number_fits(words, at + 1)
-        && (coefficient_fits(words, at + 14)
-            && (coefficient_fits(words, at + 17)
-                && (mark_fits(words, at + 20) && mark_fits(words, at + 22))))
+    body_number_fits(words, at + COLLIDER_BODY_PLACE)
+        && (coefficient_fits(words, at + COLLIDER_FRICTION_PLACE)
+            && (coefficient_fits(words, at + RESTITUTION_PLACE)
+                && (mark_fits(words, at + COLLIDER_MARGIN_PLACE)
+                    && mark_fits(words, at + SENSOR_PLACE))))
 }
 
 fn collider_fits(words: &[u32], at: usize) -> bool
@@ -88,9 +103,9 @@ pub fn colliders_fit(words: &[u32]) -> bool
     requires { ⌜ length (now words) ≡ collidersLength ⌝ }
     ensures { λ r. ⌜ r ≡ collidersFit (now (words .entry)) ⌝ }
 {
-    let mut n = 0;
+    let mut n: u32 = 0;
     while n < COLLIDERS {
-        if !collider_fits(words, n * COLLIDER_SIZE) {
+        if !collider_fits(words, n as usize * COLLIDER_SIZE) {
             return false;
         }
         n += 1;
@@ -102,9 +117,10 @@ fn body_values_fit(words: &[u32], at: usize) -> bool
     requires { ⌜ at + bodySize ≤ length (now words) ⌝ }
     ensures { λ r. ⌜ r ≡ bodyValuesFit (now (words .entry)) at ⌝ }
 {
-    mark_fits(words, at + 1)
-        && (coefficient_fits(words, at + 18)
-            && (mark_fits(words, at + 21) && mark_fits(words, at + 23)))
+    mark_fits(words, at + STATIC_PLACE)
+        && (coefficient_fits(words, at + BODY_FRICTION_PLACE)
+            && (mark_fits(words, at + BODY_MARGIN_PLACE)
+                && mark_fits(words, at + SPECULATIVE_PLACE)))
 }
 
 fn body_fits(words: &[u32], at: usize) -> bool
@@ -122,9 +138,9 @@ pub fn bodies_fit(words: &[u32]) -> bool
     requires { ⌜ length (now words) ≡ bodiesLength ⌝ }
     ensures { λ r. ⌜ r ≡ bodiesFit (now (words .entry)) ⌝ }
 {
-    let mut n = 0;
+    let mut n: u32 = 0;
     while n < BODIES {
-        if !body_fits(words, n * BODY_SIZE) {
+        if !body_fits(words, n as usize * BODY_SIZE) {
             return false;
         }
         n += 1;

@@ -4,6 +4,9 @@ ghost use lib.ListN.{length};
 ghost use Rattle.collider.specs.Layout.{settingsLength};
 ghost use Rattle.collider.specs.Recorded.{settingsOf};
 ghost use Rattle.collider.specs.Views.{plainSettings};
+use crate::layout::DEFAULT_FRICTION_PLACE;
+use crate::layout::DEFAULT_RESTITUTION_PLACE;
+use crate::layout::MATCH_PLACE;
 use crate::optional::Coefficient;
 use crate::optional::load_coefficient;
 use crate::optional::load_mark;
@@ -31,8 +34,8 @@ pub fn load_settings(words: &[u32]) -> Settings
         contact_tolerance: load_float(words, 2),
         recycle_distance: load_float(words, 3),
         recycle_cosine: load_float(words, 4),
-        match_contacts: load_mark(words, 5),
-        default_friction: load_coefficient(words, 6),
-        default_restitution: load_coefficient(words, 8),
+        match_contacts: load_mark(words, MATCH_PLACE),
+        default_friction: load_coefficient(words, DEFAULT_FRICTION_PLACE),
+        default_restitution: load_coefficient(words, DEFAULT_RESTITUTION_PLACE),
     }
 }

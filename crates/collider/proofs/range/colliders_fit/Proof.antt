@@ -40,4 +40,4 @@ returns-2 c =
 pub colliders-fit-spec : {M : Type 1} → statement M
 colliders-fit-spec =
     tie.close
-    (tie.spec Inv-loop μ-loop loop-holds (search needs) (search needs) returns (search needs) (search needs) loop-again returns-2)
+    (tie.spec Inv-loop μ-loop loop-holds (search needs) (search needs) (search needs) returns (search needs) (search needs) loop-again returns-2)

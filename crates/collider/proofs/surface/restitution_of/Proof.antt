@@ -3,7 +3,7 @@ use mathlib.Core.Path.{_∙_}
 use borrow.Author.Needs.{needs}
 use Rattle.rules.specs.Surface.{restitutionOf}
 use Rattle.collider.specs.Views.{plainCoefficientIf}
-use Rattle.collider.specs.SurfaceLaws.{alone}
+use Rattle.collider.specs.RuleLaws.{alone}
 use Rattle.collider.proofs.surface.restitution_of.Statement.{statement}
 use Rattle.collider.proofs.surface.restitution_of.Tie as tie
 
