@@ -14,9 +14,6 @@ use Rattle.collider.specs.declared.optional.Coefficient.{Coefficient}
 use Rattle.collider.specs.declared.optional.OptionalCoefficient.{OptionalCoefficient}
 use Rattle.collider.specs.declared.optional.OptionalFloat.{OptionalFloat}
 use Rattle.collider.specs.declared.optional.OptionalBody.{OptionalBody}
-use Rattle.collider.specs.declared.settings.Settings.{Settings}
-use Rattle.collider.specs.declared.collider_record.ColliderRecord.{ColliderRecord}
-use Rattle.collider.specs.declared.body_record.BodyRecord.{BodyRecord}
 
 pub settings-loaded : (xs : List ℕ) {time unit tolerance distance cosine : Float} {matching : Bool} {friction restitution : Coefficient}
     → time ≡ floatAt xs 0 → unit ≡ floatAt xs 1 → tolerance ≡ floatAt xs 2 → distance ≡ floatAt xs 3 → cosine ≡ floatAt xs 4

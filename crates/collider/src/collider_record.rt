@@ -1,4 +1,4 @@
-// A collider by value, from its record: its body, box, layers and surface. `ColliderAabb` of avian's collider/mod.rs, `CollisionLayers` of layers.rs.
+// A collider by value, from its record. From avian's collider/mod.rs and collider_hierarchy/mod.rs.
 ghost use mathlib.Core.Path.{_≡_};
 ghost use Prim.Native.Nat.{_+_, _≤_, _<_};
 ghost use lib.ListN.{length};

@@ -2,9 +2,7 @@
 // Nothing behind a mark of 0 is tested.
 ghost use mathlib.Core.Path.{_≡_};
 ghost use Prim.Native.Nat.{_+_, _≤_, _<_};
-ghost use lib.Dec.{ltb};
 ghost use lib.ListN.{length};
-ghost use Rattle.rules.specs.Limits.{bodies};
 ghost use Rattle.words.specs.Words.{wordAt};
 ghost use Rattle.collider.specs.Layout.{settingsLength, colliderSize, collidersLength, bodySize, bodiesLength};
 ghost use Rattle.collider.specs.Range.{isMark, isRule, whereSet, coefficientFits, settingsFit, colliderFits, collidersFit, bodyFits, bodiesFit};

@@ -7,7 +7,15 @@ use Rattle.collider.proofs.range.collider_values_fit.Tie as tie
 
 returns : tie.Need-returns
 unfolding colliderValuesFit
-returns c = search (passes, fails)
+returns c =
+    let margin = c .before .before in
+    let restitution = margin .before .before in
+    let friction = restitution .before .before in
+    let body = friction .before .before in
+    passes (body .body-number-fits .ensures) (friction .before .if1 .taken)
+    (passes (friction .coefficient-fits .ensures) (restitution .before .if2 .taken)
+    (passes (restitution .coefficient-fits2 .ensures) (margin .before .if3 .taken)
+    (passes (margin .mark-fits .ensures) (c .before .if4 .taken) (c .mark-fits2 .ensures))))
 
 returns-2 : tie.Need-returns-2
 unfolding colliderValuesFit
