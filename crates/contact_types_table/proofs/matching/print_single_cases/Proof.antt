@@ -1,0 +1,15 @@
+-- `contact_types_table::matching::print_single_cases` meets its contract. Assumes nothing.
+use borrow.Author.Needs.{needs}
+use Prim.Native.Nat.{_≤_, _-_}
+use Rattle.contact_types_table.proofs.matching.print_single_cases.Statement.{statement}
+use Rattle.contact_types_table.proofs.matching.print_single_cases.Tie as tie
+
+abbrev Inv-loop : tie.InvT-loop
+Inv-loop c₀ c = c ≤ 1300
+
+abbrev μ-loop : tie.MeasureT-loop
+μ-loop c₀ c = 1300 - c
+
+pub print-single-cases-spec : {M : Type 1} → statement M
+print-single-cases-spec =
+    tie.close (tie.spec Inv-loop μ-loop (search needs) (search needs) (search needs) (search needs) (search needs) (search needs))

@@ -1,0 +1,12 @@
+// Prints which points pruning keeps and which impulses matching hands on, a line for each case. The file stdout
+// holds what avian's Rust gives for the same cases (tests/contact_types.rs).
+mod draws;
+mod line;
+mod matching;
+mod pruning;
+
+fn main() {
+    pruning::print_cases();
+    matching::print_cases();
+    matching::print_single_cases();
+}

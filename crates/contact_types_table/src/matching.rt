@@ -1,0 +1,206 @@
+// Matching of a new manifold with up to 6 old ones: the impulses of each new point. Single cases have one old manifold.
+ghost use Prim.Native.Nat.{_≤_};
+ghost use Rattle.contact_types.specs.Matching.{Stored};
+use crate::draws::draw;
+use crate::draws::number;
+use crate::draws::vector;
+use crate::line::print_end;
+use crate::line::print_float;
+use crate::line::print_name;
+use crate::line::print_word;
+use contact_types::contact_manifold::ContactManifold;
+use contact_types::contact_manifold::ContactManifolds;
+use contact_types::contact_point::ContactPoint;
+use contact_types::feature_id::PackedFeatureId;
+use contact_types::matching::match_all;
+use math::bits::float_of;
+use math::vec::Vec2;
+use math::vec::Vec3;
+
+// 0, 0.1, 0.05, the floats beside 0.1, -0.1, 0.5.
+const OFFSETS: [u32; 8] = [
+    0x0000_0000,
+    0x0000_0000,
+    0x3dcc_cccd,
+    0x3d4c_cccd,
+    0x3dcc_cccc,
+    0x3dcc_ccce,
+    0xbdcc_cccd,
+    0x3f00_0000,
+];
+
+// 0.1, -0.1, 0, NaN, 1e10, 0.5, the float after 0.1, infinite.
+const THRESHOLDS: [u32; 12] = [
+    0x3dcc_cccd,
+    0x3dcc_cccd,
+    0x3dcc_cccd,
+    0x3dcc_cccd,
+    0x3dcc_cccd,
+    0xbdcc_cccd,
+    0x0000_0000,
+    0x7fc0_0000,
+    0x5015_02f9,
+    0x3f00_0000,
+    0x3dcc_ccce,
+    0x7f80_0000,
+];
+
+fn offset(d: u32) -> f32 {
+    float_of(OFFSETS[(d % 8) as usize])
+}
+
+fn threshold(key: u32) -> f32 {
+    float_of(THRESHOLDS[(draw(key, 3) % 12) as usize])
+}
+
+fn grid_spot(key: u32) -> Vec3 {
+    Vec3 {
+        x: offset(draw(key, 1) % 2 * 7),
+        y: offset(draw(key, 2)),
+        z: offset(draw(key, 3) % 3),
+    }
+}
+
+// A grid with small offsets; style 1 far from one another, 2 with awkward floats.
+fn spot(owner: u32, slot: u32, style: u32) -> Vec3 {
+    let key = draw(owner, slot);
+    if style == 1 {
+        return vector(key, 2);
+    }
+    if style == 2 {
+        if draw(key, 4) % 4 == 0 {
+            return vector(key, 3);
+        }
+    }
+    grid_spot(key)
+}
+
+// Few features, unknown ones among them; many; many and unknown ones; few known ones.
+fn feature(owner: u32, slot: u32, style: u32) -> PackedFeatureId {
+    let d = draw(owner, slot);
+    match style {
+        0 => PackedFeatureId(d % 5 / 2 * 0x4000_0001),
+        1 => PackedFeatureId(0xc000_0000 + d % 50),
+        2 => if d % 3 == 0 {
+            PackedFeatureId::UNKNOWN
+        } else {
+            PackedFeatureId(0x4000_0000 + d % 50)
+        },
+        _ => PackedFeatureId(1 + d % 5),
+    }
+}
+
+fn tangent(key: u32) -> Vec2 {
+    Vec2 {
+        x: number(key, 4, 3),
+        y: number(key, 5, 3),
+    }
+}
+
+// The impulses that were applied are not those that matching hands on.
+fn contact(owner: u32, slot: u32, features: u32, anchors: u32) -> ContactPoint {
+    let key = draw(owner, slot);
+    let mut p = ContactPoint::new(
+        spot(key, 1, anchors),
+        spot(key, 2, anchors),
+        Vec3::ZERO,
+        1.0,
+    );
+    let t = tangent(key);
+    p.normal_impulse = 9.0;
+    p.warm_start_normal_impulse = number(key, 3, 3);
+    p.warm_start_tangent_impulse = t;
+    p.with_feature_ids(feature(key, 6, features), feature(key, 7, features))
+}
+
+// All places are filled. The styles are the case's.
+fn manifold(case: u32, slot: u32) -> ContactManifold
+    ensures { λ r. ⌜ r .count ≤ 4 ⌝ }
+{
+    let features = draw(case, 1) % 4;
+    let anchors = draw(case, 2) % 4;
+    let key = draw(case, slot);
+    ContactManifold {
+        points: [
+            contact(key, 1, features, anchors),
+            contact(key, 2, features, anchors),
+            contact(key, 3, features, anchors),
+            contact(key, 4, features, anchors),
+        ],
+        count: draw(key, 5) % 5,
+        normal: Vec3::ZERO,
+        friction: 0.0,
+        restitution: 0.0,
+        tangent_velocity: Vec3::ZERO,
+    }
+}
+
+fn manifolds(case: u32) -> ContactManifolds
+    ensures { λ r. ⌜ Stored r ⌝ }
+{
+    ContactManifolds {
+        list: [
+            manifold(case, 10),
+            manifold(case, 11),
+            manifold(case, 12),
+            manifold(case, 13),
+            manifold(case, 14),
+            manifold(case, 15),
+        ],
+        count: draw(case, 5) % 7,
+    }
+}
+
+fn print_impulses(p: ContactPoint) {
+    print_float(p.warm_start_normal_impulse);
+    print_float(p.warm_start_tangent_impulse.x);
+    print_float(p.warm_start_tangent_impulse.y);
+}
+
+fn print_line(name: &[u8], c: u32, m: ContactManifold)
+    requires { ⌜ m .count ≤ 4 ⌝ }
+{
+    print_name(name);
+    print_word(c);
+    let points = m.points;
+    let count = m.count as usize;
+    let mut j = 0;
+    while j < count {
+        let p = points[j];
+        print_impulses(p);
+        j += 1;
+    }
+    print_end();
+}
+
+fn print_case(c: u32) {
+    let key = draw(c, 1);
+    let new = manifold(key, 4);
+    print_line(b"match", c, match_all(new, manifolds(key), threshold(key)));
+}
+
+fn print_single_case(c: u32) {
+    let key = draw(c, 1);
+    let new = manifold(key, 4);
+    print_line(
+        b"match_one",
+        c,
+        new.match_contacts(manifold(key, 10), threshold(key)),
+    );
+}
+
+pub fn print_cases() {
+    let mut c = 0;
+    while c < 1000 {
+        print_case(c);
+        c += 1;
+    }
+}
+
+pub fn print_single_cases() {
+    let mut c = 1000;
+    while c < 1300 {
+        print_single_case(c);
+        c += 1;
+    }
+}
