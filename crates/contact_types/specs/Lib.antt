@@ -2,3 +2,8 @@ pub mod Features
 pub mod Points
 pub mod Refusals
 pub mod Views
+pub mod Pruned
+pub mod PruneSteps
+pub mod PruneEnd
+pub mod Prune
+pub mod PruneLoad

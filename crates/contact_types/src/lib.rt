@@ -4,4 +4,6 @@ pub mod contact_manifold;
 pub mod contact_point;
 pub mod feature_id;
 pub mod limits;
+pub mod prune;
+pub mod pruning;
 pub mod refusal;

@@ -6,3 +6,4 @@ pub mod Matching
 pub mod MatchingLaws
 pub mod Pruning
 pub mod PruningLaws
+pub mod Cases

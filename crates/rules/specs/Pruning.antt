@@ -32,26 +32,29 @@ weight squared p = maximum squared tiny ⊗ p .depth
 abbrev pub apart : ℕ → ℕ → Bool
 apart i k = not (eqb k i)
 
--- the points by their numbers, and how many there are
-module _ (normal : Vec3) (count : ℕ) (p : ℕ → Projected) where
-  -- the earliest greatest weight
-  unfoldable pub point1 : Option ℕ
-  point1 = leader greater (λ k. weight (squaredLength (p k .point)) (p k)) (λ k. true) lowest count .who
+-- p gives the points by their numbers, and count is how many there are
+-- the earliest greatest weight
+unfoldable pub point1 : ℕ → (ℕ → Projected) → Option ℕ
+point1 count p = leader greater (λ k. weight (squaredLength (p k .point)) (p k)) (λ k. true) lowest count .who
 
-  -- the same by distance from point 1
-  unfoldable pub point2 : ℕ → Option ℕ
-  point2 i = leader greater (λ k. weight (squaredDistance (p k .point) (p i .point)) (p k)) (apart i) lowest count .who
+-- the same by distance from point 1, which is i
+unfoldable pub point2 : ℕ → (ℕ → Projected) → ℕ → Option ℕ
+point2 count p i = leader greater (λ k. weight (squaredDistance (p k .point) (p i .point)) (p k)) (apart i) lowest count .who
 
-  -- ((point2 − point1) cross normal) · (point − point1)
-  unfoldable pub side : ℕ → ℕ → ℕ → Float
-  side i j k = dot (cross (p j .point -v p i .point) normal) (p k .point -v p i .point)
+-- ((point2 − point1) cross normal) · (point − point1), for points 1 and 2 at i and j
+unfoldable pub side : Vec3 → (ℕ → Projected) → ℕ → ℕ → ℕ → Float
+side normal p i j k = dot (cross (p j .point -v p i .point) normal) (p k .point -v p i .point)
 
-  -- the one furthest below 0, and the one furthest above, the earliest of equals, if any
-  unfoldable pub point3 : ℕ → ℕ → Option ℕ
-  point3 i j = leader less (side i j) (λ k. apart i k && apart j k) zeroF count .who
+-- neither of the two
+abbrev pub rest : ℕ → ℕ → ℕ → Bool
+rest i j k = apart i k && apart j k
 
-  unfoldable pub point4 : ℕ → ℕ → Option ℕ
-  point4 i j = leader greater (side i j) (λ k. apart i k && apart j k) zeroF count .who
+-- the one furthest below 0, and the one furthest above, the earliest of equals, if any
+unfoldable pub point3 : Vec3 → ℕ → (ℕ → Projected) → ℕ → ℕ → Option ℕ
+point3 normal count p i j = leader less (side normal p i j) (rest i j) zeroF count .who
+
+unfoldable pub point4 : Vec3 → ℕ → (ℕ → Projected) → ℕ → ℕ → Option ℕ
+point4 normal count p i j = leader greater (side normal p i j) (rest i j) zeroF count .who
 
 -- a number or none, as a list
 abbrev pub listed : Option ℕ → List ℕ
@@ -65,10 +68,10 @@ keptBeside normal count p i (some j) = i ∷ listed (point3 normal count p i j) 
 
 unfoldable pub keptFrom : Vec3 → ℕ → (ℕ → Projected) → Option ℕ → List ℕ
 keptFrom normal count p none = []
-keptFrom normal count p (some i) = keptBeside normal count p i (point2 normal count p i)
+keptFrom normal count p (some i) = keptBeside normal count p i (point2 count p i)
 
 -- the numbers of the points that stay, in the order of the output
 unfoldable pub kept : Vec3 → ℕ → (ℕ → PrunePoint) → List ℕ
 kept normal count point =
     let p : ℕ → Projected = λ k. projected normal (point k) in
-    keptFrom normal count p (point1 normal count p)
+    keptFrom normal count p (point1 count p)

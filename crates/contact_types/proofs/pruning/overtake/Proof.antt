@@ -1,0 +1,15 @@
+-- `contact_types::pruning::overtake` meets its contract. Assumes nothing.
+use Rattle.contact_types.proofs.pruning.overtake.Statement.{statement}
+use Rattle.contact_types.proofs.pruning.overtake.Tie as tie
+
+returns : tie.Need-returns
+returns c = rw (c .before .before .if1 .taken, c .if2 .taken)
+
+returns-2 : tie.Need-returns-2
+returns-2 c = rw (c .before .before .if1 .taken, c .if2 .left)
+
+returns-3 : tie.Need-returns-3
+returns-3 c = rw (c .if1 .left)
+
+pub overtake-spec : {M : Type 1} → statement M
+overtake-spec = tie.close (tie.spec returns returns-2 returns-3)

@@ -1,0 +1,97 @@
+-- The proved cases of document 01 ('Prune listing') as one table, with a theorem for the whole. Assumes nothing.
+use Prim.Native.Nat.{ℕ}
+use mathlib.Core.Path.{_≡_, refl}
+use mathlib.Core.List.{List, [], _∷_, map}
+use lib.Ieee.{Float, binary32, nan, ofBits, toBits, lt, le, eq, isNan, add, sub, mul}
+use lib.ListN.{length, getD}
+use Rattle.math.specs.Constants.{bits, zeroF}
+use Rattle.math.specs.Root.{root, rootOf}
+use Rattle.math.specs.Choose.{maximum}
+use Rattle.math.specs.Vec.{vec3, zero2, _-v_, _*v_, dot, cross, squaredLength, squaredDistance, reject}
+use Rattle.math.specs.declared.vec.Vec3.{Vec3}
+use Rattle.rules.specs.Numbers.{first, leader}
+use Rattle.rules.specs.Records.{Point}
+use Rattle.rules.specs.Matching.{byNumber, anchorsMatch, source}
+use Rattle.rules.specs.Pruning.{PrunePoint, projected, weight, point1, point2, side, point3, point4, listed, keptBeside, keptFrom, kept}
+
+-- what a case is about
+pub data Case : Type 0 where
+  -- which of the points stay, under that normal
+  prunes : Vec3 → List PrunePoint → Case
+  -- the root of a float, both by their bits
+  roots : ℕ → Case
+  -- which old point a new one takes, at that threshold squared
+  takes : Float → Point → List Point → Case
+
+-- what the definitions give for it: numbers of points, or bits
+abbrev pub outcome : Case → List ℕ
+outcome (prunes normal ps) = kept normal (length ps) (λ k. getD ps k (record { anchor1 = vec3 nan nan nan; penetration = nan }))
+outcome (roots n) = toBits binary32 (root (bits n)) ∷ []
+outcome (takes square new olds) = listed (source byNumber square olds new)
+
+-- a case, and what it must give
+pub record Row : Type 0 where
+  pub case : Case
+  pub expected : List ℕ
+
+abbrev at : ℕ → ℕ → ℕ → ℕ → PrunePoint
+at x y z p = record { anchor1 = vec3 (bits x) (bits y) (bits z); penetration = bits p }
+
+abbrev up : Vec3
+up = vec3 (bits 0) (bits 0) (bits 0x3f80_0000)
+
+abbrev allNan : PrunePoint
+allNan = at 0x7fc0_0000 0x7fc0_0000 0x7fc0_0000 0x7fc0_0000
+
+abbrev east : PrunePoint
+east = at 0x4000_0000 0 0 0x3f80_0000
+
+abbrev west : PrunePoint
+west = at 0xc000_0000 0 0 0x3f80_0000
+
+abbrev north : PrunePoint
+north = at 0 0x3f80_0000 0 0x3f80_0000
+
+abbrev south : PrunePoint
+south = at 0 0xbf80_0000 0 0x3f80_0000
+
+abbrev half : PrunePoint
+half = at 0x3f80_0000 0 0 0x3f80_0000
+
+-- a point without features whose anchors are x away from the origin
+abbrev unnamed : ℕ → Point
+unnamed x =
+    record {
+      anchor1 = vec3 (bits x) (bits 0) (bits 0);
+      anchor2 = vec3 (bits x) (bits 0) (bits 0);
+      point = vec3 (bits 0) (bits 0) (bits 0);
+      penetration = zeroF;
+      basePenetration = zeroF;
+      normalImpulse = zeroF;
+      normalSpeed = zeroF;
+      warmStartNormal = bits x;
+      warmStartTangent = zero2;
+      feature1 = 0;
+      feature2 = 0;
+    }
+
+abbrev row : Case → List ℕ → Row
+row c e = record { case = c; expected = e }
+
+-- C1 to C4, C7 to C10
+abbrev pub table : List Row
+table =
+    row (prunes up (east ∷ west ∷ north ∷ south ∷ half ∷ [])) (0 ∷ 3 ∷ 1 ∷ 2 ∷ [])
+    ∷ row (prunes up (east ∷ east ∷ east ∷ east ∷ east ∷ [])) (0 ∷ 1 ∷ [])
+    ∷ row (prunes up (east ∷ west ∷ north ∷ north ∷ half ∷ [])) (0 ∷ 1 ∷ 2 ∷ [])
+    ∷ row (prunes (allNan .anchor1) (allNan ∷ allNan ∷ allNan ∷ allNan ∷ allNan ∷ [])) (0 ∷ 1 ∷ [])
+    ∷ row (roots 0x4000_0000) (0x3fb5_04f3 ∷ [])
+    ∷ row (roots 0x0000_0001) (0x1a35_04f3 ∷ [])
+    ∷ row (roots 0x8000_0000) (0x8000_0000 ∷ [])
+    ∷ row (roots 0xbf80_0000) (0x7fc0_0000 ∷ [])
+    ∷ row (takes (bits 0x3c23_d70a) (unnamed 0x42c8_0000) (unnamed 0 ∷ unnamed 0xc2c8_0000 ∷ [])) (0 ∷ [])
+    ∷ []
+
+pub cases-hold : map (λ r. outcome (r .case)) table ≡ map (λ r. r .expected) table
+unfolding kept keptFrom keptBeside point1 point2 point3 point4 side weight projected leader source first byNumber anchorsMatch root rootOf maximum _-v_ _*v_ dot cross squaredLength squaredDistance reject ofBits toBits lt isNan add sub mul
+cases-hold = refl

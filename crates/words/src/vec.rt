@@ -1,0 +1,52 @@
+// Vectors and quaternions as words.
+ghost use mathlib.Core.Path.{_≡_};
+ghost use Prim.Native.Nat.{_+_, _≤_};
+ghost use lib.ListN.{length};
+ghost use Rattle.rows.specs.Rows.{put};
+ghost use Rattle.words.specs.Words.{vec3At, vec3Words, quatAt, quatWords};
+use crate::row::load_float;
+use crate::row::store_float;
+use math::quat::Quat;
+use math::vec::Vec3;
+
+pub fn load_vec3(g: &[u32], at: usize) -> Vec3
+    requires { ⌜ at + 3 ≤ length (now g) ⌝ }
+    ensures { λ r. ⌜ r ≡ vec3At (now (g .entry)) at ⌝ }
+{
+    Vec3 {
+        x: load_float(g, at),
+        y: load_float(g, at + 1),
+        z: load_float(g, at + 2),
+    }
+}
+
+pub fn store_vec3(g: &mut [u32], at: usize, v: Vec3)
+    requires { ⌜ at + 3 ≤ length (now g) ⌝ }
+    ensures { λ _. ⌜ now (g .exit) ≡ put (now (g .entry)) at (vec3Words v) ⌝ }
+{
+    store_float(g, at, v.x);
+    store_float(g, at + 1, v.y);
+    store_float(g, at + 2, v.z);
+}
+
+pub fn load_quat(g: &[u32], at: usize) -> Quat
+    requires { ⌜ at + 4 ≤ length (now g) ⌝ }
+    ensures { λ r. ⌜ r ≡ quatAt (now (g .entry)) at ⌝ }
+{
+    Quat {
+        x: load_float(g, at),
+        y: load_float(g, at + 1),
+        z: load_float(g, at + 2),
+        w: load_float(g, at + 3),
+    }
+}
+
+pub fn store_quat(g: &mut [u32], at: usize, q: Quat)
+    requires { ⌜ at + 4 ≤ length (now g) ⌝ }
+    ensures { λ _. ⌜ now (g .exit) ≡ put (now (g .entry)) at (quatWords q) ⌝ }
+{
+    store_float(g, at, q.x);
+    store_float(g, at + 1, q.y);
+    store_float(g, at + 2, q.z);
+    store_float(g, at + 3, q.w);
+}
