@@ -5,4 +5,5 @@ pub mod LineLaws
 pub mod LoopLaws
 pub mod ListingLaws
 pub mod Lines
+pub mod LinesLaws
 pub mod Cases

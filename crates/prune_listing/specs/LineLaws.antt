@@ -31,9 +31,11 @@ fields-last (suc n) xs = first-read (field xs) (fields-last n)
     last-read : (v : ℕ) (front : List ℕ) (o : Option (Taken ℕ)) → after (after o (λ last. some (behind front last))) (λ others. some (before v others)) ≡ after o (λ last. some (behind (v ∷ front) last))
     last-read v front none = refl
     last-read v front (some last) = refl
+
     others-read : (v : ℕ) (o : Option (Taken (List ℕ))) → after (after o oneMore) (λ others. some (before v others)) ≡ after (after o (λ others. some (before v others))) oneMore
     others-read v none = refl
     others-read v (some front) = last-read v (front .value) (field (front .rest))
+
     first-read : (o : Option (Taken ℕ)) → ((ys : List ℕ) → fields (suc n) ys ≡ after (fields n ys) oneMore)
         → after o (λ first. after (fields (suc n) (first .rest)) (λ others. some (before (first .value) others)))
         ≡ after (after o (λ first. after (fields n (first .rest)) (λ others. some (before (first .value) others)))) oneMore

@@ -10,9 +10,9 @@ use Rattle.rows.specs.Rows.{put}
 -- the digits of a number below 1,000, with no zero in front
 unfoldable pub decimal : ℕ → List ℕ
 decimal n =
-    cond (ltb n 10) (48 + n ∷ [])
-    (cond (ltb n 100) (48 + n / 10 ∷ 48 + n % 10 ∷ [])
-    (48 + n / 100 ∷ 48 + n / 10 % 10 ∷ 48 + n % 10 ∷ []))
+    cond (ltb n 10) ((48 + n) ∷ [])
+    (cond (ltb n 100) ((48 + n / 10) ∷ (48 + n % 10) ∷ [])
+    ((48 + n / 100) ∷ (48 + n / 10 % 10) ∷ (48 + n % 10) ∷ []))
 
 -- a letter, a tab, the number, a line feed
 abbrev pub numberLine : ℕ → ℕ → List ℕ

@@ -85,10 +85,12 @@ store-next xs row₀ k at row p row′ s l h e four w =
     more none i = absurd i
     more (some others) i =
         let a : 32 - k ≡ suc (32 - (k + 1)) = omega arith in
-        let b : 4 * k + 4 ≡ 4 * (k + 1) = omega arith in
-        (tt, ap (λ (n : ℕ). put row (4 * k) (each (λ words. words) (take n (p ∷ others)))) a
-        ∙ sym (put-next row (4 * k) p (each (λ words. words) (take (32 - (k + 1)) others)) 4 four)
-        ∙ ap (λ (n : ℕ). put (put row (4 * k) p) n (each (λ words. words) (take (32 - (k + 1)) others))) b)
+        let b : 4 * k + 4 ≡ 4 * (k + 1) = omega arith in (
+          tt,
+          ap (λ (n : ℕ). put row (4 * k) (each (λ words. words) (take n (p ∷ others)))) a
+              ∙ sym (put-next row (4 * k) p (each (λ words. words) (take (32 - (k + 1)) others)) 4 four)
+              ∙ ap (λ (n : ℕ). put (put row (4 * k) p) n (each (λ words. words) (take (32 - (k + 1)) others))) b,
+        )
 
 pub store-end : (xs row₀ : List ℕ) (k at : ℕ) (row : List ℕ) → Stored xs row₀ k at row → length xs ≤ at → row ≡ storedFrom row₀ 0 (allPoints (drop 29 xs))
 unfolding put

@@ -8,9 +8,6 @@ use Rattle.prune_listing.specs.Listing.{fields}
 use Rattle.prune_listing.specs.Answers.{takenVector}
 use Rattle.prune_listing.proofs.lines.read_vector.Statement.{statement}
 use Rattle.prune_listing.proofs.lines.read_vector.Tie as tie
-use Rattle.prune_listing.proofs.lines.read_vector.Reads as reads
-use Rattle.prune_listing.proofs.lines.read_vector.Lts as lts
-use Rattle.prune_listing.proofs.words.read_field.Reads as read-field-reads
 
 returns : tie.Need-returns
 unfolding fields

@@ -7,9 +7,6 @@ use Rattle.prune_listing.specs.Answers.{pointWords}
 use Rattle.prune_listing.specs.LoopLaws.{Counted, count-none, count-bad, count-next, count-end}
 use Rattle.prune_listing.proofs.reader.count_points.Statement.{statement}
 use Rattle.prune_listing.proofs.reader.count_points.Tie as tie
-use Rattle.prune_listing.proofs.reader.count_points.Reads as reads
-use Rattle.prune_listing.proofs.reader.count_points.Lts as lts
-use Rattle.prune_listing.proofs.lines.read_point.Reads as read-point-reads
 
 abbrev Inv-loop : tie.InvT-loop
 Inv-loop text count₀ at₀ count at = Counted text count at

@@ -5,11 +5,6 @@ use lib.ListN.{drop}
 use Rattle.prune_listing.specs.ListingLaws.{too-long, no-normal, no-points, all-read, points-there}
 use Rattle.prune_listing.proofs.reader.read_listing.Statement.{statement}
 use Rattle.prune_listing.proofs.reader.read_listing.Tie as tie
-use Rattle.prune_listing.proofs.reader.read_listing.Reads as reads
-use Rattle.prune_listing.proofs.reader.read_listing.Lts as lts
-use Rattle.prune_listing.proofs.lines.read_normal.Reads as read-normal-reads
-use Rattle.prune_listing.proofs.reader.count_points.Reads as count-points-reads
-use Rattle.prune_listing.proofs.reader.store_points.Reads as store-points-reads
 
 returns : tie.Need-returns
 returns c = too-long _ _ (c .if1 .taken)

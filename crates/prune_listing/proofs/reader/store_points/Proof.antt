@@ -7,10 +7,6 @@ use Rattle.prune_listing.specs.Answers.{pointWords}
 use Rattle.prune_listing.specs.LoopLaws.{Stored, store-none, store-bad, store-next, store-end, store-full}
 use Rattle.prune_listing.proofs.reader.store_points.Statement.{statement}
 use Rattle.prune_listing.proofs.reader.store_points.Tie as tie
-use Rattle.prune_listing.proofs.reader.store_points.Reads as reads
-use Rattle.prune_listing.proofs.reader.store_points.Lts as lts
-use Rattle.prune_listing.proofs.lines.read_point.Reads as read-point-reads
-use Rattle.prune_listing.proofs.reader.store_point.Reads as store-point-reads
 
 abbrev Inv-loop : tie.InvT-loop
 Inv-loop text points₀ k₀ at₀ points k at = Stored text points₀ k at points
