@@ -6,4 +6,5 @@ pub mod LoopLaws
 pub mod ListingLaws
 pub mod Lines
 pub mod LinesLaws
+pub mod ShapeLaws
 pub mod Cases

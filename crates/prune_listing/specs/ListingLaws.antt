@@ -6,14 +6,16 @@ use native.Mathlib.Omega.{arith}
 use mathlib.Core.List.{List, [], _∷_}
 use mathlib.Core.Option.{Option, none, some, IsSome}
 use borrow.Author.Tests.{le-leb, lt-leb}
-use lib.ListN.{length, drop}
+use lib.ListN.{length, take, drop}
+use Rattle.rows.specs.Rows.{each}
+use Rattle.rows.specs.Laws.{length-put}
 use Rattle.prune_listing.specs.declared.lines.VectorWords.{VectorWords}
 use Rattle.prune_listing.specs.declared.reader.Count.{Count}
 use Rattle.prune_listing.specs.declared.reader.Count.the-variants.{Points, NoPoints}
 use Rattle.prune_listing.specs.declared.reader.Reading.{Reading}
 use Rattle.prune_listing.specs.declared.reader.Reading.the-variants.{Read, Unreadable}
 use Rattle.prune_listing.specs.Listing.{Taken, after, normalLine, allPoints, Listing, longest, listing}
-use Rattle.prune_listing.specs.Answers.{readingOf, pointsOf, ListingRead, vectorWords, countFrom, storedFrom}
+use Rattle.prune_listing.specs.Answers.{room, readingOf, pointsOf, ListingRead, vectorWords, countFrom, storedFrom}
 
 -- the listing of the normal and the points
 abbrev whole : VectorWords → Option (List (List ℕ)) → Option Listing
@@ -63,3 +65,11 @@ points-there xs n e = there (allPoints xs) e
     there : (o : Option (List (List ℕ))) → Points n ≡ countFrom 0 o → IsSome o
     there none e = let z : _≡_ {A = ℕ} 0 1 = cc in absurd (omega arith)
     there (some points) e = tt
+
+-- the row keeps its length
+pub read-length : (xs row row′ : List ℕ) (r : Reading) → ListingRead xs row row′ r → length row′ ≡ length row
+read-length xs row row′ r w = ap length (w .stored) ∙ kept (listing xs)
+  where
+    kept : (o : Option Listing) → length (pointsOf row o) ≡ length row
+    kept none = refl
+    kept (some l) = length-put row 0 (each (λ words. words) (take room (l .points)))
