@@ -8,7 +8,6 @@ use lib.Dec.{ltb}
 use lib.ListN.{length, getD, take}
 use Rattle.rows.specs.Rows.{each}
 use Rattle.words.specs.Words.{floatAt, vec3At}
-use Rattle.rules.specs.Limits.{storedPoints, proposedPoints}
 use Rattle.rules.specs.Pruning.{PrunePoint, kept}
 use Rattle.contact_types.specs.Prune.{Answer, refused, keeps}
 use Rattle.prune_listing.specs.Listing.{Listing, listing}

@@ -1,6 +1,6 @@
 -- What `answer` concludes from what its calls promise. Assumes nothing.
 use mathlib.Core.Path.{_≡_, refl, sym, ap, _∙_}
-use Prim.Native.Nat.{ℕ, _+_, _*_, _≤_, _<_}
+use Prim.Native.Nat.{ℕ, _*_, _≤_, _<_}
 use native.Mathlib.Omega.{arith}
 use mathlib.Core.Bool.{Bool, true, false, cond, not}
 use mathlib.Core.List.{List, [], _∷_}
@@ -8,7 +8,7 @@ use mathlib.Core.Option.{Option, none, some}
 use borrow.Author.Tests.{ltb-false}
 use lib.Dec.{eqb, ltb}
 use lib.Ieee.{binary32, ofBits}
-use lib.ListN.{length, getD, take, replicate, length-append, length-take}
+use lib.ListN.{length, getD, replicate, length-append, length-take}
 use lib.Seq.{length-take-le}
 use Rattle.rows.specs.Rows.{each}
 use Rattle.rows.specs.Laws.{length-put}
@@ -16,7 +16,7 @@ use Rattle.math.specs.declared.vec.Vec3.{Vec3}
 use Rattle.rules.specs.Pruning as rules
 use Rattle.contact_types.specs.Refusals.{numberOf}
 use Rattle.contact_types.specs.Pruned.{keptOf}
-use Rattle.contact_types.specs.Prune.{prunePointAt, Answer, refused, keeps, pruneAnswer, answerOf, Pruned}
+use Rattle.contact_types.specs.Prune.{prunePointAt, refused, keeps, pruneAnswer, answerOf, Pruned}
 use Rattle.contact_types.specs.declared.refusal.Refusal.{Refusal}
 use Rattle.contact_types.specs.declared.refusal.Refusal.the-variants.{WrongLength, OutOfRange, SameCollider, PairExists, GraphFull, ProposalTooLarge, InvalidShares, TooFewPoints, NoContact}
 use Rattle.contact_types.specs.declared.prune.PruneAnswer.{PruneAnswer}
@@ -31,7 +31,7 @@ use Rattle.prune_listing.specs.Answers.{readingOf, pointsOf, ListingRead}
 use Rattle.prune_listing.specs.ShapeLaws.{listing-shape}
 use Rattle.prune_answer.specs.Answer.{listingAnswer, linesOf, answerText, Below, Answered}
 use Rattle.prune_answer.specs.WriteLaws.{below-more}
-use Rattle.prune_answer.specs.AnswerLaws.{rowOf, row-answer, kept-below}
+use Rattle.prune_answer.specs.AnswerLaws.{row-answer, kept-below}
 
 abbrev zeros : List ℕ
 zeros = replicate 128 0

@@ -3,7 +3,7 @@ use mathlib.Core.Path.{_≡_, refl, sym, ap, _∙_}
 use Prim.Native.Nat.{ℕ, _+_, _-_, _≤_}
 use native.Mathlib.Omega.{arith}
 use mathlib.Core.List.{List, [], _∷_, _++_, map}
-use mathlib.Core.Option.{Option, none, some}
+use mathlib.Core.Option.{none, some}
 use lib.ListN.{take, drop}
 use Rattle.rows.specs.Rows.{each}
 use Rattle.prune_listing.specs.Listing.{Listing, expect, hexDigit, digits, word, field, fields, lineEnd, line, normalLine, pointLine, atEnd, pointLines, allPoints, listing}

@@ -1,14 +1,13 @@
 -- Lines at a place of a text. Assumes nothing.
-use mathlib.Core.Path.{_≡_, refl, sym, ap, ap₂, _∙_}
-use Prim.Native.Nat.{ℕ, zero, suc, _+_, _-_, _*_, _≤_, _<_}
+use mathlib.Core.Path.{_≡_, refl, ap, _∙_}
+use Prim.Native.Nat.{ℕ, zero, suc, _+_, _-_, _≤_, _<_}
 use native.Mathlib.Nat.{not-suc-le-zero}
-use native.Mathlib.Numerals.{add-one, unary-clauses}
-use native.Mathlib.Omega.{arith}
+use native.Mathlib.Numerals.{unary-clauses}
 use mathlib.Core.List.{List, [], _∷_, _++_}
 use mathlib.Core.Option.{Option, none, some}
-use lib.ListN.{length, getD, take, drop, drop-of-length-le}
+use lib.ListN.{length, drop, drop-of-length-le}
 use lib.Seq.{drop-cons}
-use Rattle.prune_listing.specs.Listing.{Taken, after, expect, field, fields, lineEnd, line, pointLine, atEnd, pointLines}
+use Rattle.prune_listing.specs.Listing.{Taken, after, field, fields, line, pointLine, atEnd, pointLines}
 
 -- ---- fields
 

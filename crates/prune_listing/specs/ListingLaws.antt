@@ -1,20 +1,19 @@
 -- A whole listing from what its lines read to: the cases of `read_listing`. Assumes nothing.
 use mathlib.Core.Path.{_≡_, refl, sym, ap, _∙_}
-use Prim.Native.Nat.{ℕ, _+_, _≤_, _<_}
+use Prim.Native.Nat.{ℕ, _≤_, _<_}
 use native.Mathlib.Nat.{zero-add}
 use native.Mathlib.Omega.{arith}
-use mathlib.Core.List.{List, [], _∷_}
+use mathlib.Core.List.{List}
 use mathlib.Core.Option.{Option, none, some, IsSome}
 use borrow.Author.Tests.{le-leb, lt-leb}
 use lib.ListN.{length, take, drop}
 use Rattle.rows.specs.Rows.{each}
 use Rattle.rows.specs.Laws.{length-put}
 use Rattle.prune_listing.specs.declared.lines.VectorWords.{VectorWords}
-use Rattle.prune_listing.specs.declared.reader.Count.{Count}
 use Rattle.prune_listing.specs.declared.reader.Count.the-variants.{Points, NoPoints}
 use Rattle.prune_listing.specs.declared.reader.Reading.{Reading}
 use Rattle.prune_listing.specs.declared.reader.Reading.the-variants.{Read, Unreadable}
-use Rattle.prune_listing.specs.Listing.{Taken, after, normalLine, allPoints, Listing, longest, listing}
+use Rattle.prune_listing.specs.Listing.{after, normalLine, allPoints, Listing, longest, listing}
 use Rattle.prune_listing.specs.Answers.{room, readingOf, pointsOf, ListingRead, vectorWords, countFrom, storedFrom}
 
 -- the listing of the normal and the points

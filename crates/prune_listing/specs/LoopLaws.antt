@@ -1,15 +1,14 @@
 -- A turn of each loop over the point lines: the one that counts them, and the one that stores them. Assumes nothing.
-use mathlib.Core.Path.{_≡_, refl, sym, ap, ap₂, _∙_, subst}
-use Prim.Native.Nat.{ℕ, zero, suc, _+_, _-_, _*_, _≤_, _<_}
+use mathlib.Core.Path.{_≡_, refl, sym, ap, _∙_, subst}
+use Prim.Native.Nat.{ℕ, suc, _+_, _-_, _*_, _≤_, _<_}
 use native.Mathlib.Nat.{add-zero}
 use native.Mathlib.Omega.{arith}
-use mathlib.Core.List.{List, [], _∷_, _++_}
+use mathlib.Core.List.{List, _∷_}
 use mathlib.Core.Option.{Option, none, some, IsSome}
 use lib.ListN.{length, take, drop, length-drop}
 use lib.Seq.{take-nil}
 use Rattle.rows.specs.Rows.{put, each}
 use Rattle.rows.specs.Laws.{put-next}
-use Rattle.prune_listing.specs.declared.reader.Count.{Count}
 use Rattle.prune_listing.specs.declared.reader.Count.the-variants.{Points, NoPoints}
 use Rattle.prune_listing.specs.Listing.{pointLine, pointLines, allPoints}
 use Rattle.prune_listing.specs.Answers.{countFrom, storedFrom}

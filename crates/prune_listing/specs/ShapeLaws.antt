@@ -1,7 +1,6 @@
 -- A listing's normal has three words, and each of its points four. Assumes nothing.
 use mathlib.Core.Path.{_≡_, refl, ap, subst}
 use Prim.Native.Nat.{ℕ, zero, suc}
-use native.Mathlib.Numerals.{unary-clauses}
 use mathlib.Core.Bool.{Bool, true, false, cond}
 use mathlib.Core.List.{List, [], _∷_}
 use mathlib.Core.Option.{Option, none, some}

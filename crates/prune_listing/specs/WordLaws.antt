@@ -11,9 +11,9 @@ use mathlib.Core.List.{List, [], _∷_}
 use mathlib.Core.Option.{Option, none, some}
 use borrow.Author.Tests.{le-leb, lt-leb, eq-eqb, ne-eqb}
 use lib.ListN.{length, getD, drop, drop-of-length-le}
-use lib.Seq.{drop-cons, drop-drop}
+use lib.Seq.{drop-cons}
 use Rattle.prune_listing.specs.declared.words.Word.{Word}
-use Rattle.prune_listing.specs.Listing.{Taken, after, expect, within, hexDigit, digits, word, field, lineEnd}
+use Rattle.prune_listing.specs.Listing.{after, expect, within, hexDigit, digits, word, field, lineEnd}
 use Rattle.prune_listing.specs.Answers.{takenWord, takenEnd}
 
 -- ---- a digit

@@ -1,5 +1,5 @@
 -- `prune_answer::answer::answer` meets its contract: what each call ensures, put together. Assumes nothing.
-use mathlib.Core.Path.{_≡_, refl, sym, ap, _∙_}
+use mathlib.Core.Path.{_≡_, sym, ap, _∙_}
 use borrow.Author.Needs.{needs}
 use lib.Ieee.{binary32, ofBits}
 use Rattle.contact_types.specs.Prune.{answerOf}

@@ -1,5 +1,5 @@
 -- `prune_answer::answer::write_all_kept` meets its contract. The invariant: the lines of k numbers are written. Assumes nothing.
-use mathlib.Core.Path.{_≡_, refl}
+use mathlib.Core.Path.{refl}
 use Prim.Native.Nat.{ℕ, _-_}
 use native.Mathlib.Omega.{arith}
 use borrow.Author.Needs.{needs}

@@ -1,11 +1,9 @@
 -- `prune_listing::lines::read_vector` meets its contract. Assumes nothing.
-use mathlib.Core.Path.{_≡_, ap}
-use Prim.Native.Nat.{ℕ, _+_}
+use mathlib.Core.Path.{_≡_}
+use Prim.Native.Nat.{_+_}
 use native.Mathlib.Omega.{arith}
 use borrow.Author.Needs.{needs}
-use lib.ListN.{drop}
 use Rattle.prune_listing.specs.Listing.{fields}
-use Rattle.prune_listing.specs.Answers.{takenVector}
 use Rattle.prune_listing.proofs.lines.read_vector.Statement.{statement}
 use Rattle.prune_listing.proofs.lines.read_vector.Tie as tie
 

@@ -1,5 +1,4 @@
 -- `prune_listing::reader::count_points` meets its contract. The invariant: so many lines are counted, and what is left is to be. Assumes nothing.
-use mathlib.Core.Path.{_≡_, ap, _∙_}
 use Prim.Native.Nat.{_-_}
 use borrow.Author.Needs.{needs}
 use lib.ListN.{length}

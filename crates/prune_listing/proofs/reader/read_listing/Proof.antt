@@ -1,5 +1,5 @@
 -- `prune_listing::reader::read_listing` meets its contract. Assumes nothing.
-use mathlib.Core.Path.{_≡_, sym, _∙_}
+use mathlib.Core.Path.{sym, _∙_}
 use borrow.Author.Needs.{needs}
 use lib.ListN.{drop}
 use Rattle.prune_listing.specs.ListingLaws.{too-long, no-normal, no-points, all-read, points-there}

@@ -1,8 +1,7 @@
 -- `prune_listing::reader::store_points` meets its contract. The invariant: k points are stored, and what is left to store gives the whole. Assumes nothing.
-use mathlib.Core.Path.{_≡_, refl, ap, _∙_}
+use mathlib.Core.Path.{refl}
 use Prim.Native.Nat.{_-_}
 use borrow.Author.Needs.{needs}
-use lib.ListN.{length}
 use Rattle.prune_listing.specs.Answers.{pointWords}
 use Rattle.prune_listing.specs.LoopLaws.{Stored, store-none, store-bad, store-next, store-end, store-full}
 use Rattle.prune_listing.proofs.reader.store_points.Statement.{statement}

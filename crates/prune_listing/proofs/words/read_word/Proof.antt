@@ -1,5 +1,5 @@
 -- `prune_listing::words::read_word` meets its contract. The invariant: k digits are read, and make the value. Assumes nothing.
-use mathlib.Core.Path.{_≡_, ap, subst, _∙_}
+use mathlib.Core.Path.{ap, subst, _∙_}
 use Prim.Native.Nat.{_-_, _<_}
 use borrow.Author.Needs.{needs}
 use Rattle.prune_listing.specs.Answers.{valueOf, Below}
