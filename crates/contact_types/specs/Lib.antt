@@ -1,4 +1,6 @@
 pub mod Features
+pub mod Matching
+pub mod MatchingSteps
 pub mod Points
 pub mod Refusals
 pub mod Views

@@ -4,6 +4,7 @@ use lib.ListN.{take}
 use Rattle.rules.specs.Records.{Point, Manifold}
 use Rattle.contact_types.specs.declared.contact_point.ContactPoint.{ContactPoint}
 use Rattle.contact_types.specs.declared.contact_manifold.ContactManifold.{ContactManifold}
+use Rattle.contact_types.specs.declared.contact_manifold.ContactManifolds.{ContactManifolds}
 
 abbrev pub pointOf : ContactPoint → Point
 pointOf p = record {
@@ -26,3 +27,7 @@ pointsOf m = map pointOf (take (m .count) (m .points))
 
 unfoldable pub manifoldOf : ContactManifold → Manifold
 manifoldOf m = record { points = pointsOf m; normal = m .normal; friction = m .friction; restitution = m .restitution; tangentVelocity = m .«tangent_velocity» }
+
+-- a pair's manifolds
+unfoldable pub manifoldsOf : ContactManifolds → List Manifold
+manifoldsOf m = map manifoldOf (take (m .count) (m .list))

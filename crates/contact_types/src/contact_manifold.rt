@@ -15,6 +15,12 @@ pub struct ContactManifold {
     pub tangent_velocity: Vec3,
 }
 
+// The manifolds of a pair: the first `count` of the list.
+pub struct ContactManifolds {
+    pub list: [ContactManifold; 6],
+    pub count: u32,
+}
+
 pub struct ContactRecyclingCache {
     pub rotation1: Quat,
     pub rotation2: Quat,

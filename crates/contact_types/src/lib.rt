@@ -4,6 +4,7 @@ pub mod contact_manifold;
 pub mod contact_point;
 pub mod feature_id;
 pub mod limits;
+pub mod matching;
 pub mod prune;
 pub mod pruning;
 pub mod refusal;

@@ -1,5 +1,5 @@
 // The text that `prunelist` reads, and the lines that it writes: document 01, 'Prune listing'.
-pub mod lines;
+mod lines;
 pub mod reader;
-pub mod words;
+mod words;
 pub mod writer;

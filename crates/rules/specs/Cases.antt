@@ -1,16 +1,24 @@
 -- The proved cases of document 01 ('Prune listing') as one table, with a theorem for the whole. Assumes nothing.
 use Prim.Native.Nat.{ℕ}
 use mathlib.Core.Path.{_≡_, refl}
+use mathlib.Core.Bool.{Bool, true, false, cond}
 use mathlib.Core.List.{List, [], _∷_, map}
-use lib.Ieee.{Float, binary32, nan, ofBits, toBits, lt, le, eq, isNan, add, sub, mul}
+use mathlib.Core.Option.{none, some}
+use lib.Ieee.{Float, binary32, nan, ofBits, toBits, lt, le, isNan, add, sub, mul, neg}
 use lib.ListN.{length, getD}
-use Rattle.math.specs.Constants.{bits, zeroF}
+use Rattle.math.specs.Constants.{bits, zeroF, half, one}
 use Rattle.math.specs.Root.{root, rootOf}
-use Rattle.math.specs.Choose.{maximum}
-use Rattle.math.specs.Vec.{vec3, zero2, _-v_, _*v_, dot, cross, squaredLength, squaredDistance, reject}
+use Rattle.math.specs.Choose.{maximum, minimum}
+use Rattle.math.specs.Pose.{relative}
+use Rattle.math.specs.Quat.{identity, axis, dot4, times, inverse, rotate, chordLength}
+use Rattle.math.specs.Vec.{vec3, zero2, zero3, _+v_, _-v_, _*v_, dot, cross, squaredLength, squaredDistance, length3, reject}
 use Rattle.math.specs.declared.vec.Vec3.{Vec3}
 use Rattle.rules.specs.Numbers.{first, leader}
-use Rattle.rules.specs.Records.{Point}
+use Rattle.rules.specs.Filtering.{stays}
+use Rattle.rules.specs.Inputs.{Coefficient, Settings}
+use Rattle.rules.specs.Records.{Point, Cache}
+use Rattle.rules.specs.Recycling.{scaledTolerance, scaledRecycle, toleranceFor, radius, leastTurn, squaredMotion, arc, recycles}
+use Rattle.rules.specs.Sides.{Side}
 use Rattle.rules.specs.Matching.{byNumber, anchorsMatch, source}
 use Rattle.rules.specs.Pruning.{PrunePoint, projected, weight, point1, point2, side, point3, point4, listed, keptBeside, keptFrom, kept}
 
@@ -22,12 +30,75 @@ pub data Case : Type 0 where
   roots : ℕ → Case
   -- which old point a new one takes, at that threshold squared
   takes : Float → Point → List Point → Case
+  -- whether a touching pair of bodies at rest at the origin is recycled, by the recycle distance, and how far apart the bodies were
+  recycled : ℕ → ℕ → Case
+  -- whether a point stays, by its penetration, the distance and its normal speed
+  stayed : ℕ → ℕ → ℕ → Case
 
--- what the definitions give for it: numbers of points, or bits
+-- a body at rest at the origin, and the cache of a pair of such bodies, the second then that far along x
+abbrev atRest : Side
+atRest =
+    record {
+      here = true;
+      fixed = false;
+      offset = zero3;
+      worldCom = zero3;
+      pose = record { position = zero3; rotation = identity };
+      velocity = zero3;
+      spin = zero3;
+      friction = none;
+      margin = none;
+      speculativeMaximum = none;
+      sweepRadius = zeroF;
+    }
+
+abbrev cachedAt : ℕ → Cache
+cachedAt x = record { rotation1 = identity; rotation2 = identity; relativeTranslation = vec3 (bits x) zeroF zeroF; relativeRotation = identity }
+
+abbrev average : Coefficient
+average = record { value = zeroF; rule = 1 }
+
+-- length unit 1, squared cosine 0.5
+abbrev settingsWith : ℕ → Settings
+settingsWith distance =
+    record {
+      stepTime = one;
+      lengthUnit = one;
+      contactTolerance = zeroF;
+      recycleDistance = bits distance;
+      recycleCosine = half;
+      matchContacts = true;
+      defaultFriction = average;
+      defaultRestitution = average;
+    }
+
+abbrev mark : Bool → ℕ
+mark b = cond b 1 0
+
+-- a point by its penetration and normal speed
+abbrev moving : ℕ → ℕ → Point
+moving penetration speed =
+    record {
+      anchor1 = zero3;
+      anchor2 = zero3;
+      point = zero3;
+      penetration = bits penetration;
+      basePenetration = zeroF;
+      normalImpulse = zeroF;
+      normalSpeed = bits speed;
+      warmStartNormal = zeroF;
+      warmStartTangent = zero2;
+      feature1 = 0;
+      feature2 = 0;
+    }
+
+-- what the definitions give for it: numbers of points, bits, or 1 for yes
 abbrev pub outcome : Case → List ℕ
 outcome (prunes normal ps) = kept normal (length ps) (λ k. getD ps k (record { anchor1 = vec3 nan nan nan; penetration = nan }))
 outcome (roots n) = toBits binary32 (root (bits n)) ∷ []
 outcome (takes square new olds) = listed (source byNumber square olds new)
+outcome (recycled distance x) = mark (recycles (settingsWith distance) true atRest atRest (some (cachedAt x))) ∷ []
+outcome (stayed penetration distance speed) = mark (stays one (bits distance) (moving penetration speed)) ∷ []
 
 -- a case, and what it must give
 pub record Row : Type 0 where
@@ -55,8 +126,8 @@ north = at 0 0x3f80_0000 0 0x3f80_0000
 abbrev south : PrunePoint
 south = at 0 0xbf80_0000 0 0x3f80_0000
 
-abbrev half : PrunePoint
-half = at 0x3f80_0000 0 0 0x3f80_0000
+abbrev near : PrunePoint
+near = at 0x3f80_0000 0 0 0x3f80_0000
 
 -- a point without features whose anchors are x away from the origin
 abbrev unnamed : ℕ → Point
@@ -78,20 +149,24 @@ unnamed x =
 abbrev row : Case → List ℕ → Row
 row c e = record { case = c; expected = e }
 
--- C1 to C4, C7 to C10
+-- C1 to C11, in order; beside C6 its neighbour, a recycle distance one place larger
 abbrev pub table : List Row
 table =
-    row (prunes up (east ∷ west ∷ north ∷ south ∷ half ∷ [])) (0 ∷ 3 ∷ 1 ∷ 2 ∷ [])
+    row (prunes up (east ∷ west ∷ north ∷ south ∷ near ∷ [])) (0 ∷ 3 ∷ 1 ∷ 2 ∷ [])
     ∷ row (prunes up (east ∷ east ∷ east ∷ east ∷ east ∷ [])) (0 ∷ 1 ∷ [])
-    ∷ row (prunes up (east ∷ west ∷ north ∷ north ∷ half ∷ [])) (0 ∷ 1 ∷ 2 ∷ [])
+    ∷ row (prunes up (east ∷ west ∷ north ∷ north ∷ near ∷ [])) (0 ∷ 1 ∷ 2 ∷ [])
     ∷ row (prunes (allNan .anchor1) (allNan ∷ allNan ∷ allNan ∷ allNan ∷ allNan ∷ [])) (0 ∷ 1 ∷ [])
+    ∷ row (recycled 0 0) (0 ∷ [])
+    ∷ row (recycled 0x3f00_0000 0x3f00_0000) (0 ∷ [])
+    ∷ row (recycled 0x3f00_0001 0x3f00_0000) (1 ∷ [])
     ∷ row (roots 0x4000_0000) (0x3fb5_04f3 ∷ [])
     ∷ row (roots 0x0000_0001) (0x1a35_04f3 ∷ [])
     ∷ row (roots 0x8000_0000) (0x8000_0000 ∷ [])
     ∷ row (roots 0xbf80_0000) (0x7fc0_0000 ∷ [])
     ∷ row (takes (bits 0x3c23_d70a) (unnamed 0x42c8_0000) (unnamed 0 ∷ unnamed 0xc2c8_0000 ∷ [])) (0 ∷ [])
+    ∷ row (stayed 0xbf00_0000 0x3f00_0000 0) (0 ∷ [])
     ∷ []
 
 pub cases-hold : map (λ r. outcome (r .case)) table ≡ map (λ r. r .expected) table
-unfolding kept keptFrom keptBeside point1 point2 point3 point4 side weight projected leader source first byNumber anchorsMatch root rootOf maximum _-v_ _*v_ dot cross squaredLength squaredDistance reject ofBits toBits lt isNan add sub mul
+unfolding recycles scaledTolerance scaledRecycle toleranceFor radius leastTurn squaredMotion arc stays relative axis dot4 times inverse rotate chordLength length3 minimum _+v_ le neg kept keptFrom keptBeside point1 point2 point3 point4 side weight projected leader source first byNumber anchorsMatch root rootOf maximum _-v_ _*v_ dot cross squaredLength squaredDistance reject ofBits toBits lt isNan add sub mul
 cases-hold = refl

@@ -1,9 +1,16 @@
 pub mod Limits
 pub mod Records
+pub mod Graph
 pub mod Numbers
 pub mod NumberLaws
 pub mod Matching
 pub mod MatchingLaws
 pub mod Pruning
 pub mod PruningLaws
+pub mod Inputs
+pub mod Sides
+pub mod Recycling
+pub mod Surface
+pub mod Filtering
+pub mod Update
 pub mod Cases

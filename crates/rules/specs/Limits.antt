@@ -12,3 +12,14 @@ proposedPoints = 32
 -- manifolds of a pair
 abbrev pub pairManifolds : ℕ
 pairManifolds = 6
+
+-- collider and body numbers are below these
+abbrev pub colliders : ℕ
+colliders = 256
+
+abbrev pub bodies : ℕ
+bodies = 128
+
+-- contacts of a graph
+abbrev pub mostContacts : ℕ
+mostContacts = 256

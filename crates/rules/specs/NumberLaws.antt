@@ -5,15 +5,19 @@ use native.Mathlib.Numerals.{add-one}
 use native.Mathlib.Omega.{arith}
 use mathlib.Core.Path.{_≡_, refl, sym, ap, subst, _∙_}
 use mathlib.Core.Logic.{_⊎_, inl, inr}
-use mathlib.Core.Bool.{Bool, true, false, cond, _&&_}
+use mathlib.Core.Bool.{Bool, true, false, cond, _&&_, _||_}
 use mathlib.Core.Option.{Option, none, some}
 use lib.Dec.{T}
 use lib.Ieee.{Float}
-use Rattle.rules.specs.Numbers.{else, first, Leading, Better, overtaken, leader}
+use Rattle.rules.specs.Numbers.{else, first, Leading, Better, overtaken, leader, every, any}
 
 -- a search found a number
 abbrev pub Found : Option ℕ → Type 0
 Found o = (i : ℕ) × (o ≡ some i)
+
+first-part : (a b : Bool) → a && b ≡ true → a ≡ true
+first-part true b e = refl
+first-part false b e = e
 
 -- ---- the first that passes
 module _ (test : ℕ → Bool) where
@@ -75,10 +79,6 @@ module _ (better : Better) (value : ℕ → Float) (among : ℕ → Bool) (start
         | inr r ↦ let z = leader-below k i r in omega arith
       ]
 
-  first-part : (a b : Bool) → a && b ≡ true → a ≡ true
-  first-part true b e = refl
-  first-part false b e = e
-
   part : (k : ℕ) (b : Bool) (l : Leading) (i : ℕ) → (among k && better (value k) (l .value) ≡ b) → (l .who ≡ some i → among i ≡ true) → cond b (record { value = value k; who = some k }) l .who ≡ some i → among i ≡ true
   part k true l i e f h = subst (λ (m : ℕ). among m ≡ true) (let z : _≡_ {A = ℕ} k i = cc in z) (first-part (among k) (better (value k) (l .value)) e)
   part k false l i e f h = f h
@@ -133,3 +133,93 @@ leader-same better v w a b start (suc k) h g =
     ap (overtaken better v a k) (leader-same better v w a b start k (λ i z. h i (omega arith)) (λ i z. g i (omega arith)))
     ∙ ap (λ (x : Float). cond (a k && better x (l .value)) (record { value = x; who = some k }) l) (h k (omega arith))
     ∙ ap (λ (x : Bool). cond (x && better (w k) (l .value)) (record { value = w k; who = some k }) l) (g k (omega arith))
+
+-- ---- every number, and some number
+both : (a b : Bool) → a ≡ true → b ≡ true → a && b ≡ true
+both a b p q = rw (p, q)
+
+second-part : (a b : Bool) → a && b ≡ true → b ≡ true
+second-part true b e = e
+second-part false b e = absurd (subst T (sym e) tt)
+
+not-second : (a b : Bool) → b ≡ false → a && b ≡ false
+not-second true b e = e
+not-second false b e = refl
+
+module _ (test : ℕ → Bool) where
+  -- a turn of a loop that has seen only numbers that pass
+  pub every-next : (k : ℕ) → every test k ≡ true → test k ≡ true → every test (k + 1) ≡ true
+  unfolding every
+  every-next k p q = rw add-one (both (every test k) (test k) p q)
+
+  pub every-at : (n k : ℕ) → every test n ≡ true → k < n → test k ≡ true
+  unfolding every
+  every-at zero k e h = absurd (not-suc-le-zero h)
+  every-at (suc m) k e h =
+      elim (eq-or-lt-of-le (let z : k ≤ m = omega arith in z)) [
+        | inl p ↦ subst (λ (i : ℕ). test i ≡ true) (sym p) (second-part (every test m) (test m) e)
+        | inr l ↦ every-at m k (first-part (every test m) (test m) e) l
+      ]
+
+  pub every-all : (n : ℕ) → ((k : ℕ) → k < n → test k ≡ true) → every test n ≡ true
+  unfolding every
+  every-all zero h = refl
+  every-all (suc m) h = both (every test m) (test m) (every-all m (λ k l. h k (omega arith))) (h m (omega arith))
+
+  -- one that fails
+  pub every-fails : (n k : ℕ) → k < n → test k ≡ false → every test n ≡ false
+  unfolding every
+  every-fails zero k h e = absurd (not-suc-le-zero h)
+  every-fails (suc m) k h e =
+      elim (eq-or-lt-of-le (let z : k ≤ m = omega arith in z)) [
+        | inl p ↦ not-second (every test m) (test m) (subst (λ (i : ℕ). test i ≡ false) p e)
+        | inr l ↦ ap (λ (b : Bool). b && test m) (every-fails m k l e)
+      ]
+
+  either : (a b : Bool) → a || b ≡ true → (a ≡ true) ⊎ (b ≡ true)
+  either true b e = inl refl
+  either false b e = inr e
+
+  or-second : (a b : Bool) → b ≡ true → a || b ≡ true
+  or-second true b e = refl
+  or-second false b e = e
+
+  pub any-next : (k : ℕ) → any test k ≡ false → test k ≡ false → any test (k + 1) ≡ false
+  unfolding any
+  any-next k p q = rw (add-one, p, q)
+
+  pub any-at : (n k : ℕ) → k < n → test k ≡ true → any test n ≡ true
+  unfolding any
+  any-at zero k h e = absurd (not-suc-le-zero h)
+  any-at (suc m) k h e =
+      elim (eq-or-lt-of-le (let z : k ≤ m = omega arith in z)) [
+        | inl p ↦ or-second (any test m) (test m) (subst (λ (i : ℕ). test i ≡ true) p e)
+        | inr l ↦ ap (λ (b : Bool). b || test m) (any-at m k l e)
+      ]
+
+  pub any-none : (n : ℕ) → ((k : ℕ) → k < n → test k ≡ false) → any test n ≡ false
+  unfolding any
+  any-none zero h = refl
+  any-none (suc m) h = rw (any-none m (λ k l. h k (omega arith)), h m (omega arith))
+
+  pub any-found : (n : ℕ) → any test n ≡ true → (k : ℕ) × (k < n) × (test k ≡ true)
+  unfolding any
+  any-found zero e = absurd (subst T (sym e) tt)
+  any-found (suc m) e =
+      elim (either (any test m) (test m) e) [
+        | inl p ↦ let f = any-found m p in (f .0, omega (arith, f .1), f .2)
+        | inr p ↦ (m, omega arith, p)
+      ]
+
+-- tests that agree below n
+pub every-same : (f g : ℕ → Bool) (n : ℕ) → ((k : ℕ) → k < n → f k ≡ g k) → every f n ≡ every g n
+unfolding every
+every-same f g zero h = refl
+every-same f g (suc m) h =
+    ap (λ (b : Bool). b && f m) (every-same f g m (λ k l. h k (omega arith))) ∙ ap (λ (b : Bool). every g m && b) (h m (omega arith))
+
+pub any-same : (f g : ℕ → Bool) (n : ℕ) → ((k : ℕ) → k < n → f k ≡ g k) → any f n ≡ any g n
+unfolding any
+any-same f g zero h = refl
+any-same f g (suc m) h =
+    ap (λ (b : Bool). b || f m) (any-same f g m (λ k l. h k (omega arith))) ∙ ap (λ (b : Bool). any g m || b) (h m (omega arith))

@@ -1,6 +1,6 @@
 -- Searches through the numbers below n, in order: the first that passes a test, and the one that leads by a value. Definitions only.
 use Prim.Native.Nat.{ℕ, zero, suc}
-use mathlib.Core.Bool.{Bool, true, false, cond, _&&_}
+use mathlib.Core.Bool.{Bool, true, false, cond, _&&_, _||_}
 use mathlib.Core.Option.{Option, none, some}
 use lib.Ieee.{Float, lt}
 
@@ -38,3 +38,12 @@ overtaken better value among k l = cond (among k && better (value k) (l .value))
 unfoldable pub leader : Better → (ℕ → Float) → (ℕ → Bool) → Float → ℕ → Leading
 leader better value among start zero = record { value = start; who = none }
 leader better value among start (suc k) = overtaken better value among k (leader better value among start k)
+
+-- every number below n passes, and some number below n passes
+unfoldable pub every : (ℕ → Bool) → ℕ → Bool
+every test zero = true
+every test (suc k) = every test k && test k
+
+unfoldable pub any : (ℕ → Bool) → ℕ → Bool
+any test zero = false
+any test (suc k) = any test k || test k

@@ -1,0 +1,70 @@
+// What the graph's calls take and answer, and the tests that they share. From avian's contact_types/mod.rs and contact_graph.rs.
+ghost use mathlib.Core.Path.{_≡_};
+ghost use Rattle.contact_graph.specs.Calls.{newEdge};
+ghost use Rattle.contact_graph.specs.Range.{stands};
+ghost use Rattle.contact_graph.specs.Checked.{Checked};
+use crate::layout::GIVEN_PLACE;
+use crate::layout::number_at;
+use crate::range::is_standing;
+use contact_types::contact_id::ContactId;
+
+// What an addition carries. Marks are numbers, so that one that is neither 0 nor 1 can be refused.
+pub struct Request {
+    pub collider1: u32,
+    pub collider2: u32,
+    pub has_body1: u32,
+    pub body1: u32,
+    pub has_body2: u32,
+    pub body2: u32,
+    pub contact_events: u32,
+    pub modify_contacts: u32,
+    pub speculative_distance: f32,
+}
+
+// A body, or none.
+pub enum OptionalBody {
+    Body(u32),
+    None,
+}
+
+// The edge of a contact, by value.
+pub struct ContactEdge {
+    pub id: ContactId,
+    pub collider1: u32,
+    pub collider2: u32,
+    pub body1: OptionalBody,
+    pub body2: OptionalBody,
+    pub pair_index: u32,
+    pub touching: bool,
+    pub contact_events: bool,
+}
+
+impl ContactEdge {
+    // An edge that is not in a graph yet.
+    pub fn new(collider1: u32, collider2: u32) -> ContactEdge
+        ensures { λ r. ⌜ r ≡ newEdge collider1 collider2 ⌝ }
+    {
+        ContactEdge {
+            id: ContactId::PLACEHOLDER,
+            collider1,
+            collider2,
+            body1: OptionalBody::None,
+            body2: OptionalBody::None,
+            pair_index: 0,
+            touching: false,
+            contact_events: false,
+        }
+    }
+}
+
+// Whether a number is the id of a standing contact.
+pub fn has_contact(graph: &[u32], id: u32) -> bool
+    requires { ⌜ Checked (now graph) ⌝ }
+    ensures { λ r. ⌜ r ≡ stands (now (graph .entry)) id ⌝ }
+{
+    let given = number_at(graph, GIVEN_PLACE);
+    if given <= id as usize {
+        return false;
+    }
+    is_standing(graph, id as usize)
+}

@@ -1,0 +1,51 @@
+// The public call `lay_out`: an empty graph in a lent row of words.
+ghost use mathlib.Core.Path.{_≡_};
+ghost use Prim.Native.Nat.{_≤_};
+ghost use lib.ListN.{length};
+ghost use Rattle.contact_records.specs.Written.{zeros};
+ghost use Rattle.contact_graph.specs.Layout.{graphLength};
+ghost use Rattle.contact_graph.specs.Promises.{LaidOut};
+use crate::layout::CONTACT_SIZE;
+use crate::layout::MOST_CONTACTS;
+use contact_types::refusal::Refusal;
+
+pub enum LayOutAnswer {
+    Done,
+    Refused(Refusal),
+}
+
+// How many words a graph of that capacity has.
+pub fn graph_length(capacity: usize) -> usize
+    requires { ⌜ capacity ≤ 256 ⌝ }
+    ensures { λ r. ⌜ r ≡ graphLength capacity ⌝ }
+{
+    4 + 2 * capacity + capacity * CONTACT_SIZE
+}
+
+// Every word 0.
+pub fn clear(words: &mut [u32])
+    ensures { λ _. ⌜ now (words .exit) ≡ zeros (length (now (words .entry))) ⌝ }
+{
+    let mut k = 0;
+    while k < words.len() {
+        words[k] = 0;
+        k += 1;
+    }
+}
+
+pub fn lay_out(graph: &mut [u32], capacity: u32) -> LayOutAnswer
+    ensures { λ r. ⌜ LaidOut (now (graph .entry)) capacity (now (graph .exit)) r ⌝ }
+{
+    if capacity == 0 {
+        return LayOutAnswer::Refused(Refusal::WrongLength);
+    }
+    if MOST_CONTACTS < capacity as usize {
+        return LayOutAnswer::Refused(Refusal::WrongLength);
+    }
+    if graph.len() != graph_length(capacity as usize) {
+        return LayOutAnswer::Refused(Refusal::WrongLength);
+    }
+    clear(graph);
+    graph[0] = capacity;
+    LayOutAnswer::Done
+}

@@ -1,0 +1,6 @@
+// The contact graph in a lent row of words. From avian's contact_types/contact_graph.rs and data_structures/graph.rs.
+pub mod call;
+pub mod lay_out;
+pub mod layout;
+pub mod range;
+pub mod remove;

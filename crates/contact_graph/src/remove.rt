@@ -1,0 +1,103 @@
+// The public call `remove`. From `remove_edge_by_id` of avian's contact_graph.rs.
+ghost use mathlib.Core.Path.{_≡_};
+ghost use mathlib.Core.Bool.{true};
+ghost use mathlib.Core.List.{[], _∷_};
+ghost use Prim.Native.Nat.{_≤_, _<_};
+ghost use lib.ListN.{length};
+ghost use Rattle.rows.specs.Rows.{put};
+ghost use Rattle.contact_graph.specs.Removing.{GapOf};
+ghost use Rattle.contact_graph.specs.Calls.{removedWords};
+ghost use Rattle.contact_graph.specs.Checked.{Checked};
+ghost use Rattle.contact_graph.specs.Promises.{Removed};
+ghost use Rattle.contact_graph.specs.Range.{stands};
+use crate::call::has_contact;
+use crate::layout::FREED_PLACE;
+use crate::layout::LIST_PLACE;
+use crate::layout::LISTED_PLACE;
+use crate::layout::PAIR_INDEX_PLACE;
+use crate::layout::contact_at;
+use crate::layout::number_at;
+use crate::range::in_range;
+use crate::range::right_length;
+use contact_types::refusal::Refusal;
+use words::row::load_word;
+use words::row::store_word;
+
+pub enum RemoveAnswer {
+    Done,
+    Refused(Refusal),
+}
+
+// Where a removal stores, and what: the last listed contact's id at the gap, the gap's place in that contact's record.
+pub struct Gap {
+    pub list_at: usize,
+    pub last: u32,
+    pub index_at: usize,
+    pub place: u32,
+}
+
+fn gap_of(graph: &[u32], id: u32) -> Gap
+    requires { ⌜ Checked (now graph) × (stands (now graph) id ≡ true) ⌝ }
+    ensures { λ r. ⌜ GapOf (now (graph .entry)) id r ⌝ }
+{
+    let listed = number_at(graph, LISTED_PLACE);
+    let at = contact_at(graph, id as usize);
+    let place = load_word(graph, at + PAIR_INDEX_PLACE);
+    let last = load_word(graph, LIST_PLACE + (listed - 1));
+    let moved = contact_at(graph, last as usize);
+    Gap {
+        list_at: LIST_PLACE + place as usize,
+        last,
+        index_at: moved + PAIR_INDEX_PLACE,
+        place,
+    }
+}
+
+// The two counts, side by side.
+fn store_counts(graph: &mut [u32], listed: u32, freed: u32)
+    requires { ⌜ 4 ≤ length (now graph) ⌝ }
+    ensures { λ _. ⌜ now (graph .exit) ≡ put (now (graph .entry)) 2 (listed ∷ freed ∷ []) ⌝ }
+{
+    store_word(graph, LISTED_PLACE, listed);
+    store_word(graph, FREED_PLACE, freed);
+}
+
+fn close_gap(graph: &mut [u32], gap: Gap)
+    requires { ⌜ (gap .«list_at» < length (now graph)) × (gap .«index_at» < length (now graph)) ⌝ }
+    ensures { λ _. ⌜ now (graph .exit) ≡ put (put (now (graph .entry)) (gap .«list_at») (gap .last ∷ [])) (gap .«index_at») (gap .place ∷ []) ⌝ }
+{
+    let list_at = gap.list_at;
+    let index_at = gap.index_at;
+    store_word(graph, list_at, gap.last);
+    store_word(graph, index_at, gap.place);
+}
+
+// The last listed contact takes the gap and is told its new place; the id is freed last.
+pub fn remove_standing(graph: &mut [u32], id: u32)
+    requires { ⌜ Checked (now graph) × (stands (now graph) id ≡ true) ⌝ }
+    ensures { λ _. ⌜ now (graph .exit) ≡ removedWords (now (graph .entry)) id ⌝ }
+{
+    let gap = gap_of(graph, id);
+    let capacity = number_at(graph, 0);
+    let listed = load_word(graph, LISTED_PLACE);
+    let freed = load_word(graph, FREED_PLACE);
+    close_gap(graph, gap);
+    store_word(graph, LIST_PLACE + capacity + freed as usize, id);
+    store_counts(graph, listed - 1, freed + 1);
+}
+
+pub fn remove(graph: &mut [u32], id: u32) -> RemoveAnswer
+    ensures { λ r. ⌜ Removed (now (graph .entry)) id (now (graph .exit)) r ⌝ }
+{
+    if !right_length(graph) {
+        return RemoveAnswer::Refused(Refusal::WrongLength);
+    }
+    if !in_range(graph) {
+        return RemoveAnswer::Refused(Refusal::OutOfRange);
+    }
+    if !has_contact(graph, id) {
+        return RemoveAnswer::Refused(Refusal::NoContact);
+    }
+    remove_standing(graph, id);
+    RemoveAnswer::Done
+}

@@ -1,0 +1,103 @@
+-- What words record: a contact's record read as a plain pair of `rules`. Definitions only.
+-- A mark is read as set where it is 1; an optional value's words are read only then; a list has as many elements as its count says.
+use Prim.Native.Nat.{ℕ, _+_, _-_, _*_, _^_}
+use mathlib.Core.Bool.{Bool, cond}
+use mathlib.Core.List.{List, map}
+use mathlib.Core.Option.{Option, none, some}
+use lib.Dec.{eqb, ltb}
+use lib.IntN.{ℤ, pos, negsuc}
+use Rattle.math.specs.Vec.{vec2}
+use Rattle.rows.specs.Slots.{upto}
+use Rattle.rules.specs.Records.{Point, Manifold, Cache, PairFlags, Names, EdgeFlags, Pair}
+use Rattle.words.specs.Words.{wordAt, floatAt, vec3At, quatAt}
+use Rattle.contact_records.specs.Layout as place
+
+abbrev pub markAt : List ℕ → ℕ → Bool
+markAt xs at = eqb (wordAt xs at) 1
+
+-- a mark and a number
+abbrev pub optionalAt : List ℕ → ℕ → Option ℕ
+optionalAt xs at = cond (markAt xs at) (some (wordAt xs (at + 1))) none
+
+-- a word as a signed number, in two's complement
+abbrev pub intOf : ℕ → ℤ
+intOf w = cond (ltb w (2 ^ 31)) (pos w) (negsuc (2 ^ 32 - 1 - w))
+
+unfoldable pub pointAt : List ℕ → ℕ → Point
+pointAt xs at =
+    record {
+      anchor1 = vec3At xs at;
+      anchor2 = vec3At xs (at + 3);
+      point = vec3At xs (at + 6);
+      penetration = floatAt xs (at + place.penetrationPlace);
+      basePenetration = floatAt xs (at + place.basePlace);
+      normalImpulse = floatAt xs (at + place.normalImpulsePlace);
+      normalSpeed = floatAt xs (at + place.normalSpeedPlace);
+      warmStartNormal = floatAt xs (at + place.warmNormalPlace);
+      warmStartTangent = vec2 (floatAt xs (at + place.warmTangentPlace)) (floatAt xs (at + 15));
+      feature1 = wordAt xs (at + place.featuresPlace);
+      feature2 = wordAt xs (at + 17);
+    }
+
+unfoldable pub pointsAt : List ℕ → ℕ → ℕ → List Point
+pointsAt xs at count = map (λ k. pointAt xs (at + k * place.pointSize)) (upto count)
+
+unfoldable pub manifoldAt : List ℕ → ℕ → Manifold
+manifoldAt xs at =
+    record {
+      points = pointsAt xs (at + place.pointsPlace) (wordAt xs at);
+      normal = vec3At xs (at + 1);
+      friction = floatAt xs (at + 4);
+      restitution = floatAt xs (at + 5);
+      tangentVelocity = vec3At xs (at + 6);
+    }
+
+-- the number of manifolds at a place, and the manifolds after it
+unfoldable pub manifoldsAt : List ℕ → ℕ → List Manifold
+manifoldsAt xs at = map (λ k. manifoldAt xs (at + 1 + k * place.manifoldSize)) (upto (wordAt xs at))
+
+unfoldable pub cacheAt : List ℕ → ℕ → Option Cache
+cacheAt xs at =
+    cond (markAt xs at)
+    (some (record { rotation1 = quatAt xs (at + 1); rotation2 = quatAt xs (at + 5); relativeTranslation = vec3At xs (at + 9); relativeRotation = quatAt xs (at + 12) }))
+    none
+
+unfoldable pub flagsAt : List ℕ → ℕ → PairFlags
+flagsAt xs at =
+    record {
+      touching = markAt xs at;
+      disjointAabb = markAt xs (at + 1);
+      startedTouching = markAt xs (at + 2);
+      stoppedTouching = markAt xs (at + 3);
+      generateConstraints = markAt xs (at + 4);
+      startedGenerating = markAt xs (at + 5);
+      static1 = markAt xs (at + 6);
+      static2 = markAt xs (at + 7);
+      modifyContacts = markAt xs (at + 8);
+    }
+
+unfoldable pub namesAt : List ℕ → ℕ → ℕ → Names
+namesAt xs at id =
+    record {
+      id = id;
+      collider1 = wordAt xs at;
+      collider2 = wordAt xs (at + 1);
+      body1 = optionalAt xs (at + place.body1Place);
+      body2 = optionalAt xs (at + place.body2Place);
+    }
+
+unfoldable pub edgeAt : List ℕ → ℕ → EdgeFlags
+edgeAt xs at = record { touching = markAt xs at; contactEvents = markAt xs (at + 1) }
+
+-- the contact `id`, whose record begins at that place
+unfoldable pub pairAt : List ℕ → ℕ → ℕ → Pair
+pairAt xs at id =
+    record {
+      names = namesAt xs at id;
+      edge = edgeAt xs (at + place.edgePlace);
+      flags = flagsAt xs (at + place.flagsPlace);
+      manifolds = manifoldsAt xs (at + place.manifoldsPlace);
+      countChange = intOf (wordAt xs (at + place.countChangePlace));
+      speculative = floatAt xs (at + place.speculativePlace);
+      cache = cacheAt xs (at + place.cachePlace);
+    }
