@@ -1,0 +1,5 @@
+pub mod Answer
+pub mod WriteLaws
+pub mod AnswerLaws
+pub mod CallLaws
+pub mod Cases

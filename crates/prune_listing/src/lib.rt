@@ -1,0 +1,5 @@
+// The text that `prunelist` reads, and the lines that it writes: document 01, 'Prune listing'.
+mod lines;
+pub mod reader;
+mod words;
+pub mod writer;
