@@ -1,0 +1,3 @@
+// One pair's update. From avian's narrow_phase/system_param.rs.
+pub mod distance;
+pub mod recycling;
