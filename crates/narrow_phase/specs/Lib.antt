@@ -1,1 +1,3 @@
+pub mod Motions
+pub mod Proposed
 pub mod RecycleLaws

@@ -1,6 +1,7 @@
 // Whether a pair's contacts are recycled, and how: rules 4 and 5. The recycle block of avian's `update_contacts`.
 ghost use mathlib.Core.Path.{_≡_};
-ghost use Rattle.rules.specs.Recycling.{scaledTolerance, scaledRecycle, toleranceFor, radius, leastTurn, squaredMotion, arc, recycles, deltaSeparation, recycledPoint};
+ghost use Rattle.rules.specs.Recycling.{scaledTolerance, scaledRecycle, toleranceFor, radius, leastTurn, squaredMotion, arc, recycles};
+ghost use Rattle.narrow_phase.specs.Motions.{motionOf, penetrationAfter};
 ghost use Rattle.collider.specs.Views.{plainSettings, plainSide};
 ghost use Rattle.contact_records.specs.StateViews.{cachedOf, cacheOf};
 ghost use Rattle.contact_types.specs.Views.{pointOf};
@@ -91,4 +92,36 @@ pub fn recycle(s: Settings, touching: bool, a: Side, b: Side, cache: RecyclingCa
         }
         break 'recycle true;
     }
+}
+
+// How far the two bodies have turned and moved since the cache was made: once for a pair.
+pub struct Motion {
+    pub turn1: Mat3,
+    pub turn2: Mat3,
+    // Between the centres of mass.
+    pub between: Vec3,
+}
+
+pub fn motion_of(a: Side, b: Side, k: ContactRecyclingCache) -> Motion
+    ensures { λ r. ⌜ r ≡ motionOf (plainSide a) (plainSide b) (cachedOf k) ⌝ }
+{
+    let delta1 = a.pose.rotation.mul_quat(k.rotation1.inverse());
+    let delta2 = b.pose.rotation.mul_quat(k.rotation2.inverse());
+    let centres = b.world_com.sub(a.world_com);
+    let positions = b.pose.position.sub(a.pose.position);
+    Motion {
+        turn1: Mat3::from_quat(delta1),
+        turn2: Mat3::from_quat(delta2),
+        between: centres.add(positions),
+    }
+}
+
+// The anchors stay, and the separation follows the bodies.
+pub fn recycled_penetration(m: Motion, normal: Vec3, p: ContactPoint) -> f32
+    ensures { λ r. ⌜ r ≡ penetrationAfter m normal (pointOf p) ⌝ }
+{
+    let r1 = m.turn1.mul_vec3(p.anchor1);
+    let r2 = m.turn2.mul_vec3(p.anchor2);
+    let delta = m.between.add(r2.sub(r1));
+    p.base_penetration - delta.dot(normal)
 }
