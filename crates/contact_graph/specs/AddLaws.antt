@@ -21,21 +21,13 @@ use Rattle.contact_graph.specs.Adding.{AddedNew}
 use Rattle.contact_graph.specs.Checked.{Checked}
 use Rattle.contact_graph.specs.IdLaws.{new-id}
 use Rattle.contact_graph.specs.Promises.{Added, added}
-use Rattle.contact_graph.specs.RangeLaws.{RightLength, Counts, counts}
+use Rattle.contact_graph.specs.RangeLaws.{RightLength, Counts, counts, first-of, rest-of}
 use Rattle.contact_graph.specs.Recorded.{capacityOf, givenOf, listedCount, freeCount, contactAt}
 use Rattle.contact_graph.specs.declared.add.AddAnswer.the-variants.{Refused}
 use Rattle.contact_graph.specs.declared.add.AddAnswer.the-variants as answers
 use Rattle.contact_graph.specs.Range.{isMark, rightLength, inRange}
-use Rattle.contact_graph.specs.Zeros.{length-zeros}
+use Rattle.contact_records.specs.Lists.{length-zeros}
 use Rattle.contact_graph.specs.declared.call.Request.{Request}
-
-first-of : (a b : Bool) → a && b ≡ true → a ≡ true
-first-of true b e = refl
-first-of false b e = e
-
-rest-of : (a b : Bool) → a && b ≡ true → b ≡ true
-rest-of true b e = e
-rest-of false b e = absurd (subst T (sym e) tt)
 
 -- a mark below 2 is 1 where it is read as set, and 0 where it is not
 mark-word : (w : ℕ) → w < 2 → markWord (eqb w 1) ≡ w

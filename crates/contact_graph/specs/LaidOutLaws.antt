@@ -16,7 +16,7 @@ use Rattle.contact_graph.specs.Recorded.{capacityOf, givenOf, listedCoun
 use Rattle.contact_graph.specs.Range.{rightLength, countsFit, listedGiven, namesBack, contactsFit, freeGiven, freeOnce, freeApart, givenKnown, pairsOnce, InRange}
 use Rattle.contact_graph.specs.RangeLaws.{shown}
 use Rattle.contact_graph.specs.Calls.{laidOut}
-use Rattle.contact_graph.specs.Zeros.{length-zeros}
+use Rattle.contact_records.specs.Lists.{length-zeros}
 
 pub zeros-at : (n k : ℕ) → getD (zeros n) k 0 ≡ 0
 unfolding zeros

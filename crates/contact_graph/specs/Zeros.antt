@@ -1,5 +1,5 @@
 -- Rows of zeros. Assumes nothing.
-use Prim.Native.Nat.{ℕ, zero, suc}
+use Prim.Native.Nat.{ℕ}
 use mathlib.Core.Path.{_≡_, refl, ap}
 use mathlib.Core.List.{List, [], _∷_, map}
 use lib.ListN.{length}
@@ -9,8 +9,3 @@ pub zeros-map : (xs : List ℕ) → map (λ _. 0) xs ≡ zeros (length xs)
 unfolding zeros
 zeros-map [] = refl
 zeros-map (x ∷ xs) = ap (λ (l : List ℕ). 0 ∷ l) (zeros-map xs)
-
-pub length-zeros : (n : ℕ) → length (zeros n) ≡ n
-unfolding zeros
-length-zeros zero = refl
-length-zeros (suc n) = ap suc (length-zeros n)
