@@ -22,3 +22,4 @@ pub mod LaidOutLaws
 pub mod CallLaws
 pub mod LookUpLaws
 pub mod AddLaws
+pub mod AddedGraph
