@@ -1,29 +1,39 @@
 -- What an accepted addition passed, and that the graph after it has the right length and is in range. Assumes nothing.
-use Prim.Native.Nat.{ℕ, _+_, _-_, _*_, _≤_, _<_}
-use native.Mathlib.Nat.{zero-add, add-zero}
+use Prim.Native.Nat.{ℕ, suc, _+_, _-_, _*_, _≤_, _<_, min}
+use native.Mathlib.Nat.{zero-add, add-zero, min-eq-left}
+use native.Mathlib.Numerals.{add-one}
 use native.Mathlib.Omega.{arith}
 use mathlib.Core.Path.{_≡_, refl, sym, ap, subst, _∙_}
 use mathlib.Core.Logic.{_≢_}
 use mathlib.Core.Bool.{Bool, true, false, cond, not, _&&_, true≢false}
-use mathlib.Core.List.{List, [], _∷_, _++_}
+use mathlib.Core.List.{List, [], _∷_, _++_, map}
 use borrow.Author.Tests.{eqb-true, eqb-false}
 use lib.Dec.{eqb, ltb}
-use lib.ListN.{length, getD}
-use Rattle.rules.specs.Graph.{newPair}
+use lib.ListN.{length, getD, take, length-take}
+use lib.Seq.{getD-take, ext-getD}
+use Rattle.rows.specs.Slots.{upto}
+use Rattle.rules.specs.Graph.{newPair, newId, plainAdd}
 use Rattle.rules.specs.Limits.{colliders}
 use Rattle.rules.specs.Numbers.{every}
 use Rattle.rules.specs.NumberLaws.{any-at}
+use Rattle.rules.specs.Records.{Pair}
 use Rattle.words.specs.Words.{wordAt, floatWord}
+use Rattle.contact_records.specs.Apart.{pair-same}
+use Rattle.contact_records.specs.Back.{pair-held}
+use Rattle.contact_records.specs.Counts.{Counted}
+use Rattle.contact_records.specs.Fit.{FitFloat}
 use Rattle.contact_records.specs.Layout as record-place
 use Rattle.contact_records.specs.Lengths.{length-contact}
 use Rattle.contact_records.specs.Held.{Holds}
-use Rattle.contact_records.specs.New.{newContactWords, new-contact}
+use Rattle.contact_records.specs.Lists.{map-upto-next, map-upto-same, getD-map-upto, length-map-upto}
+use Rattle.contact_records.specs.New.{newContactWords, new-contact, new-fits}
 use Rattle.contact_records.specs.Parts.{index-held}
+use Rattle.contact_records.specs.Recorded.{pairAt}
 use Rattle.contact_records.specs.Written.{contactWords, zeros}
 use Rattle.contact_graph.specs.Layout as place
-use Rattle.contact_graph.specs.Recorded.{capacityOf, givenOf, listedCount, freeCount, listedAt, freeAt, contactAt}
-use Rattle.contact_graph.specs.Range.{isMark, namesFit, marksFit, manifoldsFit, contactFits, sameColliders, rightLength, inRange, stands}
-use Rattle.contact_graph.specs.RangeLaws.{RightLength, first-of, rest-of, Counts, counts, stands-at, listed-below}
+use Rattle.contact_graph.specs.Recorded.{capacityOf, givenOf, listedCount, freeCount, listedAt, freeAt, contactAt, graphOf}
+use Rattle.contact_graph.specs.Range.{isMark, namesFit, marksFit, manifoldsFit, contactFits, sameColliders, rightLength, inRange, stands, InRange}
+use Rattle.contact_graph.specs.RangeLaws.{RightLength, first-of, rest-of, Counts, counts, stands-at, listed-below, listed-fits}
 use Rattle.contact_graph.specs.IdLaws.{new-id}
 use Rattle.contact_graph.specs.Calls.{bodyFits, bodyWord, requestFits, additionOf, pairStands, addRefusal, newIdOf, addedWords}
 use Rattle.contact_graph.specs.Checked.{Checked}
@@ -153,8 +163,8 @@ module _ {g : List ℕ} (a : Request) (c : Checked g) (ok : Accepted g a) where
   own-word : (o : ℕ) → o < record-place.contactSize → wordAt after (contactAt after (newIdOf g) + o) ≡ wordAt (requestWords (listedCount g) a ++ zeros 503) o
   own-word o l = effect .own o l ∙ ap (λ (ws : List ℕ). wordAt ws o) (new-words (listedCount g) (newIdOf g) a (ok .request))
 
-  new-fits : contactFits after (contactAt after (newIdOf g)) ≡ true
-  new-fits =
+  record-fits : contactFits after (contactAt after (newIdOf g)) ≡ true
+  record-fits =
       let ws = requestWords (listedCount g) a ++ zeros 503 in
       fits-same ws 0 after (contactAt after (newIdOf g)) (λ o l _. own-word o l ∙ ap (wordAt ws) (sym (zero-add o))) ∙ request-fit (listedCount g) a (ok .request)
 
@@ -192,9 +202,77 @@ module _ {g : List ℕ} (a : Request) (c : Checked g) (ok : Accepted g a) where
       record {
         right = right-kept (c .right) (effect .size) (effect .capacity);
         range =
-            add-keeps (c .range) effect (new-id-case g) (add-room c room .id) room alone new-fits fresh
+            add-keeps (c .range) effect (new-id-case g) (add-room c room .id) room alone record-fits fresh
             (index-held (contactAt after (newIdOf g)) (listedCount g) (newPair (newIdOf g) (additionOf a)) own-words);
       }
 
 pub added-in-range : {g : List ℕ} (a : Request) → Checked g → addRefusal g a ≡ 0 → Checked (addedWords g a)
 added-in-range {g} a c e = accepted-in-range a c (accepted g a e)
+
+-- ---- the plain graph
+-- the first of a list by index
+pub take-upto {ℓ} : {A : Type ℓ} (f : ℕ → A) (m n : ℕ) → m ≤ n → take m (map f (upto n)) ≡ map f (upto m)
+take-upto f m n h =
+    let l : length (take m (map f (upto n))) ≡ m = length-take m (map f (upto n)) ∙ ap (min m) (length-map-upto f n) ∙ min-eq-left h in
+    ext-getD (f 0) (take m (map f (upto n))) (map f (upto m)) (l ∙ sym (length-map-upto f m))
+    (λ i k. let b : i < m = omega arith in
+    getD-take m (map f (upto n)) i (f 0) b ∙ getD-map-upto f n i (f 0) (omega arith) ∙ sym (getD-map-upto f m i (f 0) b))
+
+-- the new id is that of the plain graph
+pub added-id : (g : List ℕ) → newIdOf g ≡ newId (graphOf g)
+unfolding newIdOf newId graphOf
+added-id g =
+    go (eqb (freeCount g) 0) refl
+    ∙ ap (λ (m : ℕ). cond (eqb m 0) (givenOf g) (getD (map (freeAt g) (upto (freeCount g))) (m - 1) 0)) (sym (length-map-upto (freeAt g) (freeCount g)))
+  where
+    go : (b : Bool) → eqb (freeCount g) 0 ≡ b
+        → cond b (givenOf g) (freeAt g (freeCount g - 1)) ≡ cond b (givenOf g) (getD (map (freeAt g) (upto (freeCount g))) (freeCount g - 1) 0)
+    go true e = refl
+    go false e = let z = eqb-false (freeCount g) 0 e in sym (getD-map-upto (freeAt g) (freeCount g) (freeCount g - 1) 0 (omega arith))
+
+-- the contact at a place of the list
+abbrev pub listedPair : List ℕ → ℕ → Pair
+listedPair g p = pairAt g (contactAt g (listedAt g p)) (listedAt g p)
+
+pub listed-counted : {g : List ℕ} → InRange g → (p : ℕ) → p < listedCount g → Counted g (contactAt g (listedAt g p) + record-place.manifoldsPlace)
+listed-counted r p h = let f = listed-fits r p h in record { manifolds = f .manifolds; points = f .points }
+
+module _ {g : List ℕ} (a : Request) (c : Checked g) (ok : Accepted g a) where
+  old-pair : (p : ℕ) → p < listedCount g → listedPair (addedWords g a) p ≡ listedPair g p
+  old-pair p l =
+      pair-same (listedAt (addedWords g a) p) (listed-counted (c .range) p l) (record { each = old-record a c ok p l })
+      ∙ ap (pairAt g (contactAt g (listedAt g p))) (added-effect a c (accepted-room c ok) .list p l)
+
+  last-pair : FitFloat (a .«speculative_distance») → listedPair (addedWords g a) (listedCount g) ≡ newPair (newIdOf g) (additionOf a)
+  last-pair f =
+      let h = addedWords g a in
+      ap (λ (i : ℕ). pairAt h (contactAt h i) i) (added-effect a c (accepted-room c ok) .last)
+      ∙ pair-held (listedCount g) (newPair (newIdOf g) (additionOf a)) (new-fits (newIdOf g) (additionOf a) f) (own-words a c ok)
+
+  free-kept : map (freeAt (addedWords g a)) (upto (freeCount (addedWords g a))) ≡ take (length (map (freeAt g) (upto (freeCount g))) - 1) (map (freeAt g) (upto (freeCount g)))
+  free-kept =
+      let e = added-effect a c (accepted-room c ok) in
+      let n = counts (c .range) in
+      ap (λ (m : ℕ). map (freeAt (addedWords g a)) (upto m)) (e .freed)
+      ∙ map-upto-same (freeAt (addedWords g a)) (freeAt g) (freeCount g - 1) (λ k l. e .free k (omega arith))
+      ∙ sym (take-upto (freeAt g) (freeCount g - 1) (freeCount g) (omega arith))
+      ∙ ap (λ (m : ℕ). take (m - 1) (map (freeAt g) (upto (freeCount g)))) (sym (length-map-upto (freeAt g) (freeCount g)))
+
+  given-counted : givenOf (addedWords g a) ≡ cond (eqb (length (map (freeAt g) (upto (freeCount g)))) 0) (suc (givenOf g)) (givenOf g)
+  given-counted =
+      added-effect a c (accepted-room c ok) .given ∙ ap (λ (m : ℕ). cond (eqb (freeCount g) 0) m (givenOf g)) (add-one (givenOf g))
+      ∙ ap (λ (m : ℕ). cond (eqb m 0) (suc (givenOf g)) (givenOf g)) (sym (length-map-upto (freeAt g) (freeCount g)))
+
+  pairs-after : FitFloat (a .«speculative_distance»)
+      → map (listedPair (addedWords g a)) (upto (listedCount (addedWords g a))) ≡ map (listedPair g) (upto (listedCount g)) ++ newPair (newId (graphOf g)) (additionOf a) ∷ []
+  pairs-after f =
+      ap (λ (m : ℕ). map (listedPair (addedWords g a)) (upto m)) (added-effect a c (accepted-room c ok) .listed)
+      ∙ map-upto-next (listedPair (addedWords g a)) (listedCount g)
+      ∙ (λ i. map-upto-same (listedPair (addedWords g a)) (listedPair g) (listedCount g) old-pair i ++ (last-pair f ∙ ap (λ (k : ℕ). newPair k (additionOf a)) (added-id g)) i ∷ [])
+
+  accepted-graph : FitFloat (a .«speculative_distance») → graphOf (addedWords g a) ≡ plainAdd (additionOf a) (graphOf g)
+  unfolding graphOf plainAdd
+  accepted-graph f = λ i. record { capacity = added-effect a c (accepted-room c ok) .capacity i; given = given-counted i; free = free-kept i; pairs = pairs-after f i }
+
+pub added-graph : {g : List ℕ} (a : Request) → Checked g → addRefusal g a ≡ 0 → FitFloat (a .«speculative_distance») → graphOf (addedWords g a) ≡ plainAdd (additionOf a) (graphOf g)
+added-graph {g} a c e f = accepted-graph a c (accepted g a e) f
