@@ -23,3 +23,4 @@ pub mod CallLaws
 pub mod LookUpLaws
 pub mod AddLaws
 pub mod AddedGraph
+pub mod RemovedGraph
