@@ -24,3 +24,5 @@ pub mod LookUpLaws
 pub mod AddLaws
 pub mod AddedGraph
 pub mod RemovedGraph
+pub mod Impulses
+pub mod ImpulseLaws
