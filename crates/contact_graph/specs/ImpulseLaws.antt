@@ -44,10 +44,10 @@ same-offset size i k o p a b e =
 same-word : (m n j k u v : ℕ) → j < 4 → k < 4 → u < 18 → v < 18 → storedPointPlace m j + u ≡ storedPointPlace n k + v → u ≡ v
 same-word m n j k u v a b c d e = same-offset 18 j k u v c d (same-offset 81 m n (j * 18 + u) (k * 18 + v) (omega arith) (omega arith) (omega arith))
 
--- a list by index of a list by index
-map-map-upto {ℓ ℓ′} : {A : Type ℓ} {B : Type ℓ′} (f : A → B) (h : ℕ → A) (l : List ℕ) → map f (map h l) ≡ map (λ k. f (h k)) l
-map-map-upto f h [] = refl
-map-map-upto f h (x ∷ l) = ap (λ r. f (h x) ∷ r) (map-map-upto f h l)
+-- a list twice mapped
+map-map {ℓ ℓ′} : {A : Type ℓ} {B : Type ℓ′} (f : A → B) (h : ℕ → A) (l : List ℕ) → map f (map h l) ≡ map (λ k. f (h k)) l
+map-map f h [] = refl
+map-map f h (x ∷ l) = ap (λ r. f (h x) ∷ r) (map-map f h l)
 
 vec3-same : {xs ys : List ℕ} {a b : ℕ} → Same xs a ys b 3 → vec3At ys b ≡ vec3At xs a
 vec3-same s = λ i. record { x = ofBits binary32 (first-same s tt i); y = ofBits binary32 (word-same s 1 tt i); z = ofBits binary32 (word-same s 2 tt i) }
@@ -181,3 +181,91 @@ module _ {g h : List ℕ} (c : Checked g) (w : ImpulsesWritten g h) where
 
   pub impulses-in-range : Checked h
   impulses-in-range = record { right = right-kept (c .right) (w .size) capacity-kept; range = each-in-range range-kept }
+
+  -- ---- the plain graph
+  -- where manifold m of a contact begins, and its point k
+  abbrev manifoldOf : List ℕ → ℕ → ℕ → ℕ
+  manifoldOf xs i m = contactAt xs i + record-place.manifoldsPlace + 1 + m * record-place.manifoldSize
+
+  abbrev pointOf : List ℕ → ℕ → ℕ → ℕ → ℕ
+  pointOf xs i m k = manifoldOf xs i m + record-place.pointsPlace + k * record-place.pointSize
+
+  -- a point's words before the impulses
+  point-run : (i m k : ℕ) → m < 6 → k < 4 → Same g (pointOf g i m k) h (pointOf h i m k) 11
+  point-run i m k a b = record { each = λ u l. point-word i m k u a b (omega arith) (λ s t d. omega arith) }
+
+  point-stripped : (i m k : ℕ) → m < 6 → k < 4 → strippedPoint (pointAt h (pointOf h i m k)) ≡ strippedPoint (pointAt g (pointOf g i m k))
+  unfolding pointAt
+  point-stripped i m k a b =
+      let s = point-run i m k a b in
+      let first : Same g (pointOf g i m k) h (pointOf h i m k) 3 = record { each = λ u l. s .each u (omega arith) } in
+      λ j. record {
+        anchor1 = vec3-same first j;
+        anchor2 = vec3-same (same-in s 3 3 (lit≤ tt)) j;
+        point = vec3-same (same-in s 6 3 (lit≤ tt)) j;
+        penetration = ofBits binary32 (word-same s 9 tt j);
+        basePenetration = ofBits binary32 (word-same s 10 tt j);
+        normalImpulse = zeroF;
+        normalSpeed = ofBits binary32 (point-word i m k 12 a b (omega arith) (λ p q d. d refl) j);
+        warmStartNormal = zeroF;
+        warmStartTangent = vec2 zeroF zeroF;
+        feature1 = point-word i m k 16 a b (omega arith) (λ p q d. omega arith) j;
+        feature2 = point-word i m k 17 a b (omega arith) (λ p q d. omega arith) j;
+      }
+
+  points-stripped : (i m n : ℕ) → m < 6 → n ≤ 4 → map strippedPoint (pointsAt h (manifoldOf h i m + record-place.pointsPlace) n) ≡ map strippedPoint (pointsAt g (manifoldOf g i m + record-place.pointsPlace) n)
+  unfolding pointsAt
+  points-stripped i m n a b =
+      map-map strippedPoint (λ k. pointAt h (pointOf h i m k)) (upto n)
+      ∙ map-upto-same (λ k. strippedPoint (pointAt h (pointOf h i m k))) (λ k. strippedPoint (pointAt g (pointOf g i m k))) n (λ k l. point-stripped i m k a (omega arith))
+      ∙ sym (map-map strippedPoint (λ k. pointAt g (pointOf g i m k)) (upto n))
+
+  manifold-stripped : (i m : ℕ) → m < 6 → wordAt g (manifoldOf g i m) ≤ 4 → strippedManifold (manifoldAt h (manifoldOf h i m)) ≡ strippedManifold (manifoldAt g (manifoldOf g i m))
+  unfolding manifoldAt
+  manifold-stripped i m a b =
+      let s = manifold-run i m a in
+      λ j. record {
+        points =
+            (ap (λ (n : ℕ). map strippedPoint (pointsAt h (manifoldOf h i m + record-place.pointsPlace) n)) (first-same s tt) ∙ points-stripped i m (wordAt g (manifoldOf g i m)) a b) j;
+        normal = vec3-same (same-in s 1 3 (lit≤ tt)) j;
+        friction = ofBits binary32 (word-same s 4 tt j);
+        restitution = ofBits binary32 (word-same s 5 tt j);
+        tangentVelocity = vec3-same (same-in s 6 3 (lit≤ tt)) j;
+      }
+
+  manifolds-stripped : (i : ℕ) → Fitting g (contactAt g i)
+      → map strippedManifold (manifoldsAt h (contactAt h i + record-place.manifoldsPlace)) ≡ map strippedManifold (manifoldsAt g (contactAt g i + record-place.manifoldsPlace))
+  unfolding manifoldsAt
+  manifolds-stripped i f =
+      let n = wordAt g (contactAt g i + record-place.manifoldsPlace) in
+      ap (λ (m : ℕ). map strippedManifold (map (λ k. manifoldAt h (manifoldOf h i k)) (upto m))) (first-words i record-place.manifoldsPlace (omega arith))
+      ∙ map-map strippedManifold (λ k. manifoldAt h (manifoldOf h i k)) (upto n)
+      ∙ map-upto-same (λ k. strippedManifold (manifoldAt h (manifoldOf h i k))) (λ k. strippedManifold (manifoldAt g (manifoldOf g i k))) n (λ k l. manifold-stripped i k (omega (arith, f .manifolds)) (f .points k l))
+      ∙ sym (map-map strippedManifold (λ k. manifoldAt g (manifoldOf g i k)) (upto n))
+
+  pub pair-stripped : (i : ℕ) → Fitting g (contactAt g i) → stripped (pairAt h (contactAt h i) i) ≡ stripped (pairAt g (contactAt g i) i)
+  unfolding stripped pairAt
+  pair-stripped i f =
+      λ j. record {
+        names = names-same i (own-run i 6 (lit≤ tt)) j;
+        edge = edge-same (first-run i 7 2 (lit≤ tt)) j;
+        flags = flags-same (first-run i 9 9 (lit≤ tt)) j;
+        manifolds = manifolds-stripped i f j;
+        countChange = intOf (first-words i 18 (lit≤ tt) j);
+        speculative = ofBits binary32 (first-words i 19 (lit≤ tt) j);
+        cache = cache-same (first-run i 20 16 (lit≤ tt)) j;
+      }
+
+  pub impulses-graph : SameButImpulses (graphOf g) (graphOf h)
+  unfolding graphOf
+  impulses-graph =
+      record {
+        capacity = capacity-kept;
+        given = given-kept;
+        free = ap (λ (n : ℕ). map (freeAt h) (upto n)) freed-kept ∙ map-upto-same (freeAt h) (freeAt g) (freeCount g) free-at;
+        pairs =
+            ap (λ (n : ℕ). map stripped (map (listedPair h) (upto n))) listed-kept ∙ map-map stripped (listedPair h) (upto (listedCount g))
+            ∙ map-upto-same (λ p. stripped (listedPair h p)) (λ p. stripped (listedPair g p)) (listedCount g)
+            (λ p l. ap (λ (i : ℕ). stripped (pairAt h (contactAt h i) i)) (listed-at p l) ∙ pair-stripped (listedAt g p) (listed-fits (c .range) p l))
+            ∙ sym (map-map stripped (listedPair g) (upto (listedCount g)));
+      }
