@@ -11,6 +11,8 @@ use lib.Ieee.{binary32, ofBits}
 use lib.ListN.{length}
 use Rattle.math.specs.Constants.{zeroF}
 use Rattle.math.specs.Vec.{vec2}
+use Rattle.rows.specs.Laws.{length-put, getD-put-apart}
+use Rattle.rows.specs.Rows.{put}
 use Rattle.rows.specs.Slots.{upto}
 use Rattle.rows.specs.SlotLaws.{slots-apart}
 use Rattle.rules.specs.Limits.{bodies}
@@ -29,7 +31,7 @@ use Rattle.contact_graph.specs.Range.{isMark, optionalFits, stands, isFr
 use Rattle.contact_graph.specs.RangeLaws.{RightLength, Counts, counts, Fitting, listed-given, listed-index, listed-fits, standing-fits, free-given, free-once, free-not-standing, given-known, pair-once}
 use Rattle.contact_graph.specs.RangeShown.{EachInRange, each-in-range}
 use Rattle.contact_graph.specs.Checked.{Checked}
-use Rattle.contact_graph.specs.Effects.{contact-after, same-or-not}
+use Rattle.contact_graph.specs.Effects.{contact-after, differ, same-or-not}
 use Rattle.contact_graph.specs.AddedGraph.{right-kept, listedPair}
 use Rattle.contact_graph.specs.Impulses.{storedPointPlace, ImpulseAt, ImpulsesWritten, strippedPoint, strippedManifold, stripped, SameButImpulses}
 
@@ -269,3 +271,37 @@ module _ {g h : List ℕ} (c : Checked g) (w : ImpulsesWritten g h) where
             (λ p l. ap (λ (i : ℕ). stripped (pairAt h (contactAt h i) i)) (listed-at p l) ∙ pair-stripped (listedAt g p) (listed-fits (c .range) p l))
             ∙ sym (map-map stripped (listedPair g) (upto (listedCount g)));
       }
+
+  -- ---- one after another
+  pub impulse-back : {j : ℕ} → ImpulseAt h j → ImpulseAt g j
+  impulse-back a =
+      let i = a .contact in
+      let s : stands g i ≡ true = sym (stands-kept i) ∙ a .standing in
+      let m : a .manifold < wordAt g (contactAt g i + record-place.manifoldsPlace) = omega (arith, a .counted, first-words i record-place.manifoldsPlace (omega arith)) in
+      let few : a .manifold < 6 = omega (arith, standing-fits (c .range) i s .manifolds) in
+      record {
+        contact = i;
+        manifold = a .manifold;
+        point = a .point;
+        word = a .word;
+        standing = s;
+        counted = m;
+        stored = omega (arith, a .stored, first-same (manifold-run i (a .manifold) few) tt);
+        least = a .least;
+        most = a .most;
+        unlike = a .unlike;
+        place = a .place ∙ ap (λ (n : ℕ). place.contactPlace n i + storedPointPlace (a .manifold) (a .point) + a .word) capacity-kept;
+      }
+
+  pub impulses-then : {k : List ℕ} → ImpulsesWritten h k → ImpulsesWritten g k
+  impulses-then v = record { size = v .size ∙ w .size; rest = λ j n. v .rest j (λ a. n (impulse-back a)) ∙ w .rest j n }
+
+-- none, and one
+pub impulses-none : (g : List ℕ) → ImpulsesWritten g g
+impulses-none g = record { size = refl; rest = λ j n. refl }
+
+pub impulse-put : (g : List ℕ) (j v : ℕ) → ImpulseAt g j → ImpulsesWritten g (put g j (v ∷ []))
+impulse-put g j v a = record { size = length-put g j (v ∷ []); rest = λ k n. getD-put-apart g j (v ∷ []) k 0 (other k n) }
+  where
+    other : (k : ℕ) → (ImpulseAt g k → ⊥) → (k < j) ⊎ (j + 1 ≤ k)
+    other k n = elim (differ k j (λ e. n (subst (ImpulseAt g) (sym e) a))) [ inl l ↦ inl l | inr l ↦ inr (omega arith) ]
