@@ -1,10 +1,9 @@
--- What an accepted addition passed, and that the graph after it has the right length and is in range. Assumes nothing.
-use Prim.Native.Nat.{ℕ, suc, _+_, _-_, _*_, _≤_, _<_, min}
+-- What an accepted addition passed. It leaves a graph of the right length and in range, and does to the words what the plain addition does to the graph. Assumes nothing.
+use Prim.Native.Nat.{ℕ, suc, _+_, _-_, _≤_, _<_, min}
 use native.Mathlib.Nat.{zero-add, add-zero, min-eq-left}
 use native.Mathlib.Numerals.{add-one}
 use native.Mathlib.Omega.{arith}
-use mathlib.Core.Path.{_≡_, refl, sym, ap, subst, _∙_}
-use mathlib.Core.Logic.{_≢_}
+use mathlib.Core.Path.{_≡_, refl, sym, ap, _∙_}
 use mathlib.Core.Bool.{Bool, true, false, cond, not, _&&_, true≢false}
 use mathlib.Core.List.{List, [], _∷_, _++_, map}
 use borrow.Author.Tests.{eqb-true, eqb-false}
@@ -13,7 +12,6 @@ use lib.ListN.{length, getD, take, length-take}
 use lib.Seq.{getD-take, ext-getD}
 use Rattle.rows.specs.Slots.{upto}
 use Rattle.rules.specs.Graph.{newPair, newId, plainAdd}
-use Rattle.rules.specs.Limits.{colliders}
 use Rattle.rules.specs.Numbers.{every}
 use Rattle.rules.specs.NumberLaws.{any-at}
 use Rattle.rules.specs.Records.{Pair}
@@ -26,14 +24,14 @@ use Rattle.contact_records.specs.Layout as record-place
 use Rattle.contact_records.specs.Lengths.{length-contact}
 use Rattle.contact_records.specs.Held.{Holds}
 use Rattle.contact_records.specs.Lists.{map-upto-next, map-upto-same, getD-map-upto, length-map-upto}
-use Rattle.contact_records.specs.New.{newContactWords, new-contact, new-fits}
+use Rattle.contact_records.specs.New.{new-contact, new-fits}
 use Rattle.contact_records.specs.Parts.{index-held}
 use Rattle.contact_records.specs.Recorded.{pairAt}
 use Rattle.contact_records.specs.Written.{contactWords, zeros}
 use Rattle.contact_graph.specs.Layout as place
 use Rattle.contact_graph.specs.Recorded.{capacityOf, givenOf, listedCount, freeCount, listedAt, freeAt, contactAt, graphOf}
 use Rattle.contact_graph.specs.Range.{isMark, namesFit, marksFit, manifoldsFit, contactFits, sameColliders, rightLength, inRange, stands, InRange}
-use Rattle.contact_graph.specs.RangeLaws.{RightLength, first-of, rest-of, Counts, counts, stands-at, listed-below, listed-fits}
+use Rattle.contact_graph.specs.RangeLaws.{RightLength, first-of, rest-of, counts, stands-at, listed-below, listed-fits}
 use Rattle.contact_graph.specs.IdLaws.{new-id}
 use Rattle.contact_graph.specs.Calls.{bodyFits, bodyWord, requestFits, additionOf, pairStands, addRefusal, newIdOf, addedWords}
 use Rattle.contact_graph.specs.Checked.{Checked}
@@ -41,7 +39,7 @@ use Rattle.contact_graph.specs.Effects.{AddEffect, add-effect}
 use Rattle.contact_graph.specs.FitsLaws.{fits-same}
 use Rattle.contact_graph.specs.AddKeeps.{NewId, lowest, freed, add-keeps}
 use Rattle.contact_graph.specs.RemoveKeeps.{colliders-swap}
-use Rattle.contact_graph.specs.AddLaws.{request-words, AddRoom, add-room}
+use Rattle.contact_graph.specs.AddLaws.{request-words, add-room}
 use Rattle.contact_graph.specs.declared.call.Request.{Request}
 
 -- ---- what an accepted addition passed
@@ -53,7 +51,7 @@ pub record Accepted (g : List ℕ) (a : Request) : Type 0 where
   pub fresh : pairStands g (a .collider1) (a .collider2) ≡ false
   pub spare : listedCount g ≡ capacityOf g → ⊥
 
-passed : (l r q s p f : Bool) → _≡_ {A = ℕ} (cond (not l) 1 (cond (not (r && q)) 2 (cond s 3 (cond p 4 (cond f 5 0))))) 0
+pub passed : (l r q s p f : Bool) → _≡_ {A = ℕ} (cond (not l) 1 (cond (not (r && q)) 2 (cond s 3 (cond p 4 (cond f 5 0))))) 0
     → (l ≡ true) × (r ≡ true) × (q ≡ true) × (s ≡ false) × (p ≡ false) × (f ≡ false)
 passed false r q s p f e = absurd (let z : _≡_ {A = ℕ} 1 0 = e in omega arith)
 passed true false q s p f e = absurd (let z : _≡_ {A = ℕ} 2 0 = e in omega arith)
@@ -80,29 +78,29 @@ pub accepted-room : {g : List ℕ} {a : Request} → Checked g → Accepted g a 
 accepted-room c d = let n = counts (c .range) in let s = d .spare in omega arith
 
 -- ---- the new record's words
-abbrev requestWords : ℕ → Request → List ℕ
+abbrev pub requestWords : ℕ → Request → List ℕ
 requestWords index a =
     a .collider1 ∷ a .collider2 ∷ a .«has_body1» ∷ bodyWord (a .«has_body1») (a .body1) ∷ a .«has_body2» ∷ bodyWord (a .«has_body2») (a .body2) ∷ index ∷ 0 ∷ a .«contact_events»
     ∷ 0 ∷ 0 ∷ 0 ∷ 0 ∷ 0 ∷ 0 ∷ 0 ∷ 0 ∷ a .«modify_contacts» ∷ 0 ∷ floatWord (a .«speculative_distance») ∷ []
 
-new-words : (index id : ℕ) (a : Request) → requestFits a ≡ true → contactWords index (newPair id (additionOf a)) ≡ requestWords index a ++ zeros 503
+pub new-words : (index id : ℕ) (a : Request) → requestFits a ≡ true → contactWords index (newPair id (additionOf a)) ≡ requestWords index a ++ zeros 503
 new-words index id a e = new-contact index id (additionOf a) ∙ ap (λ (ws : List ℕ). ws ++ zeros 503) (sym (request-words a index e refl refl refl))
 
 -- they are in range
-words-fit : (c1 c2 m1 b1 m2 b2 index ce mc d : ℕ) → ltb c1 256 ≡ true → ltb c2 256 ≡ true → bodyFits m1 b1 ≡ true → bodyFits m2 b2 ≡ true → isMark ce ≡ true → isMark mc ≡ true
+pub words-fit : (c1 c2 m1 b1 m2 b2 index ce mc d : ℕ) → ltb c1 256 ≡ true → ltb c2 256 ≡ true → bodyFits m1 b1 ≡ true → bodyFits m2 b2 ≡ true → isMark ce ≡ true → isMark mc ≡ true
     → contactFits (c1 ∷ c2 ∷ m1 ∷ b1 ∷ m2 ∷ b2 ∷ index ∷ 0 ∷ ce ∷ 0 ∷ 0 ∷ 0 ∷ 0 ∷ 0 ∷ 0 ∷ 0 ∷ 0 ∷ mc ∷ 0 ∷ d ∷ zeros 503) 0 ≡ true
 unfolding contactFits namesFit marksFit manifoldsFit every zeros
 words-fit c1 c2 m1 b1 m2 b2 index ce mc d p q s t u v = rw (p, q, s, t, u, v)
 
 -- what stands behind a mark of 0 is not asked
-body-word : (m n : ℕ) → bodyFits m n ≡ true → bodyFits m (bodyWord m n) ≡ true
+pub body-word : (m n : ℕ) → bodyFits m n ≡ true → bodyFits m (bodyWord m n) ≡ true
 body-word m n e = go (eqb m 1) e
   where
     go : (b : Bool) → isMark m && cond b (ltb n 128) true ≡ true → isMark m && cond b (ltb (cond b n 0) 128) true ≡ true
     go true s = s
     go false s = s
 
-request-fit : (index : ℕ) (a : Request) → requestFits a ≡ true → contactFits (requestWords index a ++ zeros 503) 0 ≡ true
+pub request-fit : (index : ℕ) (a : Request) → requestFits a ≡ true → contactFits (requestWords index a ++ zeros 503) 0 ≡ true
 unfolding requestFits
 request-fit index a e =
     let c1 = ltb (a .collider1) 256 in
@@ -130,7 +128,7 @@ newWords g a = contactWords (listedCount g) (newPair (newIdOf g) (additionOf a))
 abbrev pub newGiven : List ℕ → ℕ
 newGiven g = cond (eqb (freeCount g) 0) (givenOf g + 1) (givenOf g)
 
-new-id-case : (g : List ℕ) → NewId g (newIdOf g) (newGiven g) (freeCount g - 1)
+pub new-id-case : (g : List ℕ) → NewId g (newIdOf g) (newGiven g) (freeCount g - 1)
 unfolding newIdOf
 new-id-case g = go (eqb (freeCount g) 0) refl
   where
@@ -144,26 +142,26 @@ added-effect {g} a c room =
     add-effect g (newWords g a) (newIdOf g) (newGiven g) (freeCount g - 1) (c .right) (add-room c room .id) room (length-contact (listedCount g) (newPair (newIdOf g) (additionOf a)))
 
 module _ {g : List ℕ} (a : Request) (c : Checked g) (ok : Accepted g a) where
-  abbrev after : List ℕ
+  abbrev pub after : List ℕ
   after = addedWords g a
 
-  abbrev room : listedCount g < capacityOf g
+  abbrev pub room : listedCount g < capacityOf g
   room = accepted-room c ok
 
-  effect : AddEffect g after (newWords g a) (newIdOf g) (newGiven g) (freeCount g - 1)
+  pub effect : AddEffect g after (newWords g a) (newIdOf g) (newGiven g) (freeCount g - 1)
   effect = added-effect a c room
 
-  alone : stands g (newIdOf g) ≡ false
+  pub alone : stands g (newIdOf g) ≡ false
   unfolding newIdOf
   alone = new-id (c .range) room .1
 
   pub own-words : Holds after (contactAt after (newIdOf g)) (newWords g a)
   own-words = record { each = λ i l. effect .own i (omega (arith, length-contact (listedCount g) (newPair (newIdOf g) (additionOf a)))) }
 
-  own-word : (o : ℕ) → o < record-place.contactSize → wordAt after (contactAt after (newIdOf g) + o) ≡ wordAt (requestWords (listedCount g) a ++ zeros 503) o
+  pub own-word : (o : ℕ) → o < record-place.contactSize → wordAt after (contactAt after (newIdOf g) + o) ≡ wordAt (requestWords (listedCount g) a ++ zeros 503) o
   own-word o l = effect .own o l ∙ ap (λ (ws : List ℕ). wordAt ws o) (new-words (listedCount g) (newIdOf g) a (ok .request))
 
-  record-fits : contactFits after (contactAt after (newIdOf g)) ≡ true
+  pub record-fits : contactFits after (contactAt after (newIdOf g)) ≡ true
   record-fits =
       let ws = requestWords (listedCount g) a ++ zeros 503 in
       fits-same ws 0 after (contactAt after (newIdOf g)) (λ o l _. own-word o l ∙ ap (wordAt ws) (sym (zero-add o))) ∙ request-fit (listedCount g) a (ok .request)
@@ -174,11 +172,11 @@ module _ {g : List ℕ} (a : Request) (c : Checked g) (ok : Accepted g a) where
       ap (λ (i : ℕ). wordAt after (contactAt after i + o)) (effect .list p l)
       ∙ effect .others (listedAt g p) o (listed-below (c .range) p l) (λ q. true≢false (sym (stands-at g p l) ∙ ap (stands g) q ∙ alone)) s
 
-  old-first : (p : ℕ) → p < listedCount g → wordAt after (contactAt after (listedAt after p)) ≡ wordAt g (contactAt g (listedAt g p))
+  pub old-first : (p : ℕ) → p < listedCount g → wordAt after (contactAt after (listedAt after p)) ≡ wordAt g (contactAt g (listedAt g p))
   old-first p l =
       ap (wordAt after) (sym (add-zero (contactAt after (listedAt after p)))) ∙ old-record p l 0 (omega arith) ∙ ap (wordAt g) (add-zero (contactAt g (listedAt g p)))
 
-  not-standing : (p : ℕ) → p < listedCount g → sameColliders (a .collider1) (a .collider2) (wordAt g (contactAt g (listedAt g p))) (wordAt g (contactAt g (listedAt g p) + 1)) ≡ false
+  pub not-standing : (p : ℕ) → p < listedCount g → sameColliders (a .collider1) (a .collider2) (wordAt g (contactAt g (listedAt g p))) (wordAt g (contactAt g (listedAt g p) + 1)) ≡ false
   unfolding pairStands
   not-standing p l = go (test p) refl
     where
@@ -189,7 +187,7 @@ module _ {g : List ℕ} (a : Request) (c : Checked g) (ok : Accepted g a) where
       go false e = refl
       go true e = absurd (true≢false (sym (any-at test (listedCount g) p l e) ∙ ok .fresh))
 
-  fresh : (p : ℕ) → p < listedCount g
+  pub fresh : (p : ℕ) → p < listedCount g
       → sameColliders (wordAt after (contactAt after (listedAt after p))) (wordAt after (contactAt after (listedAt after p) + 1)) (wordAt after (contactAt after (newIdOf g))) (wordAt after (contactAt after (newIdOf g) + 1)) ≡ false
   fresh p l =
       let e1 : wordAt after (contactAt after (newIdOf g)) ≡ a .collider1 = ap (wordAt after) (sym (add-zero (contactAt after (newIdOf g)))) ∙ own-word 0 (omega arith) in
@@ -238,18 +236,18 @@ pub listed-counted : {g : List ℕ} → InRange g → (p : ℕ) → p < listedCo
 listed-counted r p h = let f = listed-fits r p h in record { manifolds = f .manifolds; points = f .points }
 
 module _ {g : List ℕ} (a : Request) (c : Checked g) (ok : Accepted g a) where
-  old-pair : (p : ℕ) → p < listedCount g → listedPair (addedWords g a) p ≡ listedPair g p
+  pub old-pair : (p : ℕ) → p < listedCount g → listedPair (addedWords g a) p ≡ listedPair g p
   old-pair p l =
       pair-same (listedAt (addedWords g a) p) (listed-counted (c .range) p l) (record { each = old-record a c ok p l })
       ∙ ap (pairAt g (contactAt g (listedAt g p))) (added-effect a c (accepted-room c ok) .list p l)
 
-  last-pair : FitFloat (a .«speculative_distance») → listedPair (addedWords g a) (listedCount g) ≡ newPair (newIdOf g) (additionOf a)
+  pub last-pair : FitFloat (a .«speculative_distance») → listedPair (addedWords g a) (listedCount g) ≡ newPair (newIdOf g) (additionOf a)
   last-pair f =
       let h = addedWords g a in
       ap (λ (i : ℕ). pairAt h (contactAt h i) i) (added-effect a c (accepted-room c ok) .last)
       ∙ pair-held (listedCount g) (newPair (newIdOf g) (additionOf a)) (new-fits (newIdOf g) (additionOf a) f) (own-words a c ok)
 
-  free-kept : map (freeAt (addedWords g a)) (upto (freeCount (addedWords g a))) ≡ take (length (map (freeAt g) (upto (freeCount g))) - 1) (map (freeAt g) (upto (freeCount g)))
+  pub free-kept : map (freeAt (addedWords g a)) (upto (freeCount (addedWords g a))) ≡ take (length (map (freeAt g) (upto (freeCount g))) - 1) (map (freeAt g) (upto (freeCount g)))
   free-kept =
       let e = added-effect a c (accepted-room c ok) in
       let n = counts (c .range) in
@@ -258,19 +256,19 @@ module _ {g : List ℕ} (a : Request) (c : Checked g) (ok : Accepted g a) where
       ∙ sym (take-upto (freeAt g) (freeCount g - 1) (freeCount g) (omega arith))
       ∙ ap (λ (m : ℕ). take (m - 1) (map (freeAt g) (upto (freeCount g)))) (sym (length-map-upto (freeAt g) (freeCount g)))
 
-  given-counted : givenOf (addedWords g a) ≡ cond (eqb (length (map (freeAt g) (upto (freeCount g)))) 0) (suc (givenOf g)) (givenOf g)
+  pub given-counted : givenOf (addedWords g a) ≡ cond (eqb (length (map (freeAt g) (upto (freeCount g)))) 0) (suc (givenOf g)) (givenOf g)
   given-counted =
       added-effect a c (accepted-room c ok) .given ∙ ap (λ (m : ℕ). cond (eqb (freeCount g) 0) m (givenOf g)) (add-one (givenOf g))
       ∙ ap (λ (m : ℕ). cond (eqb m 0) (suc (givenOf g)) (givenOf g)) (sym (length-map-upto (freeAt g) (freeCount g)))
 
-  pairs-after : FitFloat (a .«speculative_distance»)
+  pub pairs-after : FitFloat (a .«speculative_distance»)
       → map (listedPair (addedWords g a)) (upto (listedCount (addedWords g a))) ≡ map (listedPair g) (upto (listedCount g)) ++ newPair (newId (graphOf g)) (additionOf a) ∷ []
   pairs-after f =
       ap (λ (m : ℕ). map (listedPair (addedWords g a)) (upto m)) (added-effect a c (accepted-room c ok) .listed)
       ∙ map-upto-next (listedPair (addedWords g a)) (listedCount g)
       ∙ (λ i. map-upto-same (listedPair (addedWords g a)) (listedPair g) (listedCount g) old-pair i ++ (last-pair f ∙ ap (λ (k : ℕ). newPair k (additionOf a)) (added-id g)) i ∷ [])
 
-  accepted-graph : FitFloat (a .«speculative_distance») → graphOf (addedWords g a) ≡ plainAdd (additionOf a) (graphOf g)
+  pub accepted-graph : FitFloat (a .«speculative_distance») → graphOf (addedWords g a) ≡ plainAdd (additionOf a) (graphOf g)
   unfolding graphOf plainAdd
   accepted-graph f = λ i. record { capacity = added-effect a c (accepted-room c ok) .capacity i; given = given-counted i; free = free-kept i; pairs = pairs-after f i }
 

@@ -1,14 +1,13 @@
 -- Impulses that were written leave a graph of the right length and in range, and the plain graph but for them. Assumes nothing.
-use Prim.Native.Nat.{ℕ, zero, suc, _+_, _-_, _*_, _≤_, _<_}
+use Prim.Native.Nat.{ℕ, _+_, _*_, _≤_, _<_}
 use native.Mathlib.Nat.{add-zero, add-assoc}
 use native.Mathlib.Omega.{arith}
 use mathlib.Core.Path.{_≡_, refl, sym, ap, subst, _∙_}
 use mathlib.Core.Logic.{_⊎_, inl, inr, _≢_}
-use mathlib.Core.Bool.{Bool, true, false, cond, _&&_}
+use mathlib.Core.Bool.{true, cond, _&&_}
 use mathlib.Core.List.{List, [], _∷_, map}
 use lib.Dec.{T, eqb, ltb, lit≤}
 use lib.Ieee.{binary32, ofBits}
-use lib.ListN.{length}
 use Rattle.math.specs.Constants.{zeroF}
 use Rattle.math.specs.Vec.{vec2}
 use Rattle.rows.specs.Laws.{length-put, getD-put-apart}
@@ -18,7 +17,6 @@ use Rattle.rows.specs.SlotLaws.{slots-apart}
 use Rattle.rules.specs.Limits.{bodies}
 use Rattle.rules.specs.Numbers.{any}
 use Rattle.rules.specs.NumberLaws.{any-same}
-use Rattle.rules.specs.Records.{Point, Manifold, Pair}
 use Rattle.words.specs.Words.{wordAt, vec3At}
 use Rattle.contact_records.specs.Apart.{names-same, edge-same, flags-same, cache-same}
 use Rattle.contact_records.specs.Held.{Same, same-in, word-same, first-same}
@@ -27,8 +25,8 @@ use Rattle.contact_records.specs.Lists.{map-upto-same}
 use Rattle.contact_records.specs.Recorded.{intOf, pointAt, pointsAt, manifoldAt, manifoldsAt, pairAt}
 use Rattle.contact_graph.specs.Layout as place
 use Rattle.contact_graph.specs.Recorded.{capacityOf, givenOf, listedCount, freeCount, listedAt, freeAt, contactAt, graphOf}
-use Rattle.contact_graph.specs.Range.{isMark, optionalFits, stands, isFree, sameColliders, samePair, InRange}
-use Rattle.contact_graph.specs.RangeLaws.{RightLength, Counts, counts, Fitting, listed-given, listed-index, listed-fits, standing-fits, free-given, free-once, free-not-standing, given-known, pair-once}
+use Rattle.contact_graph.specs.Range.{isMark, optionalFits, stands, isFree, sameColliders, samePair}
+use Rattle.contact_graph.specs.RangeLaws.{counts, Fitting, listed-given, listed-index, listed-fits, standing-fits, free-given, free-once, free-not-standing, given-known, pair-once}
 use Rattle.contact_graph.specs.RangeShown.{EachInRange, each-in-range}
 use Rattle.contact_graph.specs.Checked.{Checked}
 use Rattle.contact_graph.specs.Effects.{contact-after, differ, same-or-not}
@@ -36,48 +34,48 @@ use Rattle.contact_graph.specs.AddedGraph.{right-kept, listedPair}
 use Rattle.contact_graph.specs.Impulses.{storedPointPlace, ImpulseAt, ImpulsesWritten, strippedPoint, strippedManifold, stripped, SameButImpulses}
 
 -- ---- a place of a record is one contact's, one manifold's, one point's and one word's
-same-offset : (size i k o p : ℕ) → o < size → p < size → i * size + o ≡ k * size + p → o ≡ p
+pub same-offset : (size i k o p : ℕ) → o < size → p < size → i * size + o ≡ k * size + p → o ≡ p
 same-offset size i k o p a b e =
     elim (same-or-not i k) [
       | inl q ↦ let z : i * size ≡ k * size = ap (λ (n : ℕ). n * size) q in omega arith
       | inr d ↦ absurd (elim (slots-apart 0 size i k d) [ inl z ↦ omega arith | inr z ↦ omega arith ])
     ]
 
-same-word : (m n j k u v : ℕ) → j < 4 → k < 4 → u < 18 → v < 18 → storedPointPlace m j + u ≡ storedPointPlace n k + v → u ≡ v
+pub same-word : (m n j k u v : ℕ) → j < 4 → k < 4 → u < 18 → v < 18 → storedPointPlace m j + u ≡ storedPointPlace n k + v → u ≡ v
 same-word m n j k u v a b c d e = same-offset 18 j k u v c d (same-offset 81 m n (j * 18 + u) (k * 18 + v) (omega arith) (omega arith) (omega arith))
 
 -- a list twice mapped
-map-map {ℓ ℓ′} : {A : Type ℓ} {B : Type ℓ′} (f : A → B) (h : ℕ → A) (l : List ℕ) → map f (map h l) ≡ map (λ k. f (h k)) l
+pub map-map {ℓ ℓ′} : {A : Type ℓ} {B : Type ℓ′} (f : A → B) (h : ℕ → A) (l : List ℕ) → map f (map h l) ≡ map (λ k. f (h k)) l
 map-map f h [] = refl
 map-map f h (x ∷ l) = ap (λ r. f (h x) ∷ r) (map-map f h l)
 
-vec3-same : {xs ys : List ℕ} {a b : ℕ} → Same xs a ys b 3 → vec3At ys b ≡ vec3At xs a
+pub vec3-same : {xs ys : List ℕ} {a b : ℕ} → Same xs a ys b 3 → vec3At ys b ≡ vec3At xs a
 vec3-same s = λ i. record { x = ofBits binary32 (first-same s tt i); y = ofBits binary32 (word-same s 1 tt i); z = ofBits binary32 (word-same s 2 tt i) }
 
 module _ {g h : List ℕ} (c : Checked g) (w : ImpulsesWritten g h) where
-  head-kept : (j : ℕ) → j < 4 + 2 * capacityOf g → wordAt h j ≡ wordAt g j
+  pub head-kept : (j : ℕ) → j < 4 + 2 * capacityOf g → wordAt h j ≡ wordAt g j
   head-kept j l = w .rest j (λ a. omega (arith, a .place, contact-after (c .right) (a .contact)))
 
-  capacity-kept : capacityOf h ≡ capacityOf g
+  pub capacity-kept : capacityOf h ≡ capacityOf g
   capacity-kept = head-kept 0 (omega arith)
 
-  given-kept : givenOf h ≡ givenOf g
+  pub given-kept : givenOf h ≡ givenOf g
   given-kept = let z = c .right .least in head-kept 1 (omega arith)
 
-  listed-kept : listedCount h ≡ listedCount g
+  pub listed-kept : listedCount h ≡ listedCount g
   listed-kept = let z = c .right .least in head-kept 2 (omega arith)
 
-  freed-kept : freeCount h ≡ freeCount g
+  pub freed-kept : freeCount h ≡ freeCount g
   freed-kept = let z = c .right .least in head-kept 3 (omega arith)
 
-  listed-at : (p : ℕ) → p < listedCount g → listedAt h p ≡ listedAt g p
+  pub listed-at : (p : ℕ) → p < listedCount g → listedAt h p ≡ listedAt g p
   listed-at p l = let n = counts (c .range) in head-kept (4 + p) (omega arith)
 
-  free-at : (k : ℕ) → k < freeCount g → freeAt h k ≡ freeAt g k
+  pub free-at : (k : ℕ) → k < freeCount g → freeAt h k ≡ freeAt g k
   free-at k l = let n = counts (c .range) in ap (λ (m : ℕ). wordAt h (4 + m + k)) capacity-kept ∙ head-kept (4 + capacityOf g + k) (omega arith)
 
   -- ---- a record's words
-  record-word : (i o : ℕ) → o < record-place.contactSize
+  pub record-word : (i o : ℕ) → o < record-place.contactSize
       → ((m k v : ℕ) → m < 6 → k < 4 → 11 ≤ v → v ≤ 15 → v ≢ 12 → o ≡ storedPointPlace m k + v → ⊥) → wordAt h (contactAt h i + o) ≡ wordAt g (contactAt g i + o)
   record-word i o l n =
       ap (λ (m : ℕ). wordAt h (place.contactPlace m i + o)) capacity-kept
@@ -89,34 +87,34 @@ module _ {g h : List ℕ} (c : Checked g) (w : ImpulsesWritten g h) where
       (same-offset 523 i (a .contact) o (storedPointPlace (a .manifold) (a .point) + a .word) l (omega (arith, a .most)) (omega (arith, a .place))))
 
   -- what stands before the manifolds, and their number
-  first-words : (i o : ℕ) → o ≤ record-place.manifoldsPlace → wordAt h (contactAt h i + o) ≡ wordAt g (contactAt g i + o)
+  pub first-words : (i o : ℕ) → o ≤ record-place.manifoldsPlace → wordAt h (contactAt h i + o) ≡ wordAt g (contactAt g i + o)
   first-words i o l = record-word i o (omega arith) (λ m k v a b p q s e. omega arith)
 
-  first-run : (i o n : ℕ) → o + n ≤ 37 → Same g (contactAt g i + o) h (contactAt h i + o) n
+  pub first-run : (i o n : ℕ) → o + n ≤ 37 → Same g (contactAt g i + o) h (contactAt h i + o) n
   first-run i o n l =
       record { each = λ j b. ap (wordAt h) (add-assoc (contactAt h i) o j) ∙ first-words i (o + j) (omega arith) ∙ ap (wordAt g) (sym (add-assoc (contactAt g i) o j)) }
 
-  own-run : (i n : ℕ) → n ≤ 37 → Same g (contactAt g i) h (contactAt h i) n
+  pub own-run : (i n : ℕ) → n ≤ 37 → Same g (contactAt g i) h (contactAt h i) n
   own-run i n l = record { each = λ j b. first-words i j (omega arith) }
 
-  optional-kept : (i o : ℕ) → o < 36 → optionalFits bodies h (contactAt h i + o) ≡ optionalFits bodies g (contactAt g i + o)
+  pub optional-kept : (i o : ℕ) → o < 36 → optionalFits bodies h (contactAt h i + o) ≡ optionalFits bodies g (contactAt g i + o)
   optional-kept i o l =
       let s = first-run i o 2 (omega arith) in
       λ j. isMark (first-same s tt j) && cond (eqb (first-same s tt j) 1) (ltb (word-same s 1 tt j) bodies) true
 
   -- what stands before a manifold's points
-  manifold-words : (i m o : ℕ) → m < 6 → o < record-place.pointsPlace
+  pub manifold-words : (i m o : ℕ) → m < 6 → o < record-place.pointsPlace
       → wordAt h (contactAt h i + record-place.manifoldsPlace + 1 + m * record-place.manifoldSize + o) ≡ wordAt g (contactAt g i + record-place.manifoldsPlace + 1 + m * record-place.manifoldSize + o)
   manifold-words i m o a b =
       ap (wordAt h) (let e : contactAt h i + 36 + 1 + m * 81 + o ≡ contactAt h i + (37 + m * 81 + o) = omega arith in e)
       ∙ record-word i (37 + m * 81 + o) (omega arith) (λ n k v p q s t u e. let z = same-offset 81 m n o (9 + k * 18 + v) (omega arith) (omega arith) (omega arith) in omega arith)
       ∙ ap (wordAt g) (let e : contactAt g i + (37 + m * 81 + o) ≡ contactAt g i + 36 + 1 + m * 81 + o = omega arith in e)
 
-  manifold-run : (i m : ℕ) → m < 6 → Same g (contactAt g i + record-place.manifoldsPlace + 1 + m * record-place.manifoldSize) h (contactAt h i + record-place.manifoldsPlace + 1 + m * record-place.manifoldSize) record-place.pointsPlace
+  pub manifold-run : (i m : ℕ) → m < 6 → Same g (contactAt g i + record-place.manifoldsPlace + 1 + m * record-place.manifoldSize) h (contactAt h i + record-place.manifoldsPlace + 1 + m * record-place.manifoldSize) record-place.pointsPlace
   manifold-run i m l = record { each = λ o b. manifold-words i m o l b }
 
   -- a point's words but for the impulses
-  point-word : (i m k u : ℕ) → m < 6 → k < 4 → u < 18 → ((11 ≤ u) → (u ≤ 15) → u ≢ 12 → ⊥)
+  pub point-word : (i m k u : ℕ) → m < 6 → k < 4 → u < 18 → ((11 ≤ u) → (u ≤ 15) → u ≢ 12 → ⊥)
       → wordAt h (contactAt h i + record-place.manifoldsPlace + 1 + m * record-place.manifoldSize + record-place.pointsPlace + k * record-place.pointSize + u)
       ≡ wordAt g (contactAt g i + record-place.manifoldsPlace + 1 + m * record-place.manifoldSize + record-place.pointsPlace + k * record-place.pointSize + u)
   point-word i m k u a b l n =
@@ -126,7 +124,7 @@ module _ {g h : List ℕ} (c : Checked g) (w : ImpulsesWritten g h) where
       ∙ ap (wordAt g) (let e : contactAt g i + (storedPointPlace m k + u) ≡ contactAt g i + 36 + 1 + m * 81 + 9 + k * 18 + u = omega arith in e)
 
   -- ---- the range
-  fitting-kept : (i : ℕ) → Fitting g (contactAt g i) → Fitting h (contactAt h i)
+  pub fitting-kept : (i : ℕ) → Fitting g (contactAt g i) → Fitting h (contactAt h i)
   fitting-kept i f =
       record {
         collider1 = omega (arith, first-same (own-run i 37 (lit≤ tt)) tt, f .collider1);
@@ -140,26 +138,26 @@ module _ {g h : List ℕ} (c : Checked g) (w : ImpulsesWritten g h) where
             omega (arith, first-same (manifold-run i k (omega (arith, f .manifolds))) tt, f .points k b);
       }
 
-  stands-kept : (i : ℕ) → stands h i ≡ stands g i
+  pub stands-kept : (i : ℕ) → stands h i ≡ stands g i
   unfolding stands
   stands-kept i = ap (any (λ p. eqb (listedAt h p) i)) listed-kept ∙ any-same (λ p. eqb (listedAt h p) i) (λ p. eqb (listedAt g p) i) (listedCount g) (λ p l. ap (λ (n : ℕ). eqb n i) (listed-at p l))
 
-  isFree-kept : (i : ℕ) → isFree h i ≡ isFree g i
+  pub isFree-kept : (i : ℕ) → isFree h i ≡ isFree g i
   unfolding isFree
   isFree-kept i = ap (any (λ k. eqb (freeAt h k) i)) freed-kept ∙ any-same (λ k. eqb (freeAt h k) i) (λ k. eqb (freeAt g k) i) (freeCount g) (λ k l. ap (λ (n : ℕ). eqb n i) (free-at k l))
 
   -- the record of a listed contact
-  listed-word : (p o : ℕ) → p < listedCount g → o ≤ record-place.manifoldsPlace → wordAt h (contactAt h (listedAt h p) + o) ≡ wordAt g (contactAt g (listedAt g p) + o)
+  pub listed-word : (p o : ℕ) → p < listedCount g → o ≤ record-place.manifoldsPlace → wordAt h (contactAt h (listedAt h p) + o) ≡ wordAt g (contactAt g (listedAt g p) + o)
   listed-word p o l b = ap (λ (i : ℕ). wordAt h (contactAt h i + o)) (listed-at p l) ∙ first-words (listedAt g p) o b
 
-  listed-first : (p : ℕ) → p < listedCount g → wordAt h (contactAt h (listedAt h p)) ≡ wordAt g (contactAt g (listedAt g p))
+  pub listed-first : (p : ℕ) → p < listedCount g → wordAt h (contactAt h (listedAt h p)) ≡ wordAt g (contactAt g (listedAt g p))
   listed-first p l = ap (wordAt h) (sym (add-zero (contactAt h (listedAt h p)))) ∙ listed-word p 0 l (omega arith) ∙ ap (wordAt g) (add-zero (contactAt g (listedAt g p)))
 
-  pair-kept : (p q : ℕ) → p < listedCount g → q < listedCount g → samePair h p q ≡ samePair g p q
+  pub pair-kept : (p q : ℕ) → p < listedCount g → q < listedCount g → samePair h p q ≡ samePair g p q
   unfolding samePair
   pair-kept p q a b = λ i. sameColliders (listed-first p a i) (listed-word p 1 a (omega arith) i) (listed-first q b i) (listed-word q 1 b (omega arith) i)
 
-  range-kept : EachInRange h
+  pub range-kept : EachInRange h
   range-kept =
       let r = c .range in
       let n = counts r in
@@ -186,17 +184,17 @@ module _ {g h : List ℕ} (c : Checked g) (w : ImpulsesWritten g h) where
 
   -- ---- the plain graph
   -- where manifold m of a contact begins, and its point k
-  abbrev manifoldOf : List ℕ → ℕ → ℕ → ℕ
+  abbrev pub manifoldOf : List ℕ → ℕ → ℕ → ℕ
   manifoldOf xs i m = contactAt xs i + record-place.manifoldsPlace + 1 + m * record-place.manifoldSize
 
-  abbrev pointOf : List ℕ → ℕ → ℕ → ℕ → ℕ
+  abbrev pub pointOf : List ℕ → ℕ → ℕ → ℕ → ℕ
   pointOf xs i m k = manifoldOf xs i m + record-place.pointsPlace + k * record-place.pointSize
 
   -- a point's words before the impulses
-  point-run : (i m k : ℕ) → m < 6 → k < 4 → Same g (pointOf g i m k) h (pointOf h i m k) 11
+  pub point-run : (i m k : ℕ) → m < 6 → k < 4 → Same g (pointOf g i m k) h (pointOf h i m k) 11
   point-run i m k a b = record { each = λ u l. point-word i m k u a b (omega arith) (λ s t d. omega arith) }
 
-  point-stripped : (i m k : ℕ) → m < 6 → k < 4 → strippedPoint (pointAt h (pointOf h i m k)) ≡ strippedPoint (pointAt g (pointOf g i m k))
+  pub point-stripped : (i m k : ℕ) → m < 6 → k < 4 → strippedPoint (pointAt h (pointOf h i m k)) ≡ strippedPoint (pointAt g (pointOf g i m k))
   unfolding pointAt
   point-stripped i m k a b =
       let s = point-run i m k a b in
@@ -215,14 +213,14 @@ module _ {g h : List ℕ} (c : Checked g) (w : ImpulsesWritten g h) where
         feature2 = point-word i m k 17 a b (omega arith) (λ p q d. omega arith) j;
       }
 
-  points-stripped : (i m n : ℕ) → m < 6 → n ≤ 4 → map strippedPoint (pointsAt h (manifoldOf h i m + record-place.pointsPlace) n) ≡ map strippedPoint (pointsAt g (manifoldOf g i m + record-place.pointsPlace) n)
+  pub points-stripped : (i m n : ℕ) → m < 6 → n ≤ 4 → map strippedPoint (pointsAt h (manifoldOf h i m + record-place.pointsPlace) n) ≡ map strippedPoint (pointsAt g (manifoldOf g i m + record-place.pointsPlace) n)
   unfolding pointsAt
   points-stripped i m n a b =
       map-map strippedPoint (λ k. pointAt h (pointOf h i m k)) (upto n)
       ∙ map-upto-same (λ k. strippedPoint (pointAt h (pointOf h i m k))) (λ k. strippedPoint (pointAt g (pointOf g i m k))) n (λ k l. point-stripped i m k a (omega arith))
       ∙ sym (map-map strippedPoint (λ k. pointAt g (pointOf g i m k)) (upto n))
 
-  manifold-stripped : (i m : ℕ) → m < 6 → wordAt g (manifoldOf g i m) ≤ 4 → strippedManifold (manifoldAt h (manifoldOf h i m)) ≡ strippedManifold (manifoldAt g (manifoldOf g i m))
+  pub manifold-stripped : (i m : ℕ) → m < 6 → wordAt g (manifoldOf g i m) ≤ 4 → strippedManifold (manifoldAt h (manifoldOf h i m)) ≡ strippedManifold (manifoldAt g (manifoldOf g i m))
   unfolding manifoldAt
   manifold-stripped i m a b =
       let s = manifold-run i m a in
@@ -235,7 +233,7 @@ module _ {g h : List ℕ} (c : Checked g) (w : ImpulsesWritten g h) where
         tangentVelocity = vec3-same (same-in s 6 3 (lit≤ tt)) j;
       }
 
-  manifolds-stripped : (i : ℕ) → Fitting g (contactAt g i)
+  pub manifolds-stripped : (i : ℕ) → Fitting g (contactAt g i)
       → map strippedManifold (manifoldsAt h (contactAt h i + record-place.manifoldsPlace)) ≡ map strippedManifold (manifoldsAt g (contactAt g i + record-place.manifoldsPlace))
   unfolding manifoldsAt
   manifolds-stripped i f =

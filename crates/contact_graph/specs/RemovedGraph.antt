@@ -1,14 +1,13 @@
 -- A removal leaves a graph of the right length and in range, and to the words it does what the plain removal does to the graph. Assumes nothing.
-use Prim.Native.Nat.{ℕ, zero, suc, _+_, _-_, _*_, _≤_, _<_, min, suc-le-suc}
+use Prim.Native.Nat.{ℕ, zero, suc, _+_, _-_, _≤_, _<_, min, suc-le-suc}
 use native.Mathlib.Nat.{add-assoc, min-eq-left, zero-lt-suc, not-suc-le-zero, le-of-suc-le-suc}
 use native.Mathlib.Omega.{arith}
 use mathlib.Core.Path.{_≡_, refl, sym, ap, _∙_}
-use mathlib.Core.Logic.{_⊎_, inl, inr, _≢_}
-use mathlib.Core.Bool.{Bool, true, false, cond}
+use mathlib.Core.Logic.{inl, inr, _≢_}
+use mathlib.Core.Bool.{Bool, true, cond}
 use mathlib.Core.List.{List, [], _∷_, _++_, map}
-use mathlib.Core.Option.{Option, none, some}
+use mathlib.Core.Option.{Option, some}
 use borrow.Author.Tests.{eq-eqb, ne-eqb}
-use lib.Dec.{eqb}
 use lib.Ieee.{binary32, ofBits}
 use lib.ListN.{length, getD, take, set, length-take, length-set}
 use lib.Seq.{getD-take, getD-set-same, getD-set-other, ext-getD}
@@ -22,14 +21,14 @@ use Rattle.contact_records.specs.Held.{Same}
 use Rattle.contact_records.specs.Layout as record-place
 use Rattle.contact_records.specs.Lists.{map-upto-next, map-upto-same, getD-map-upto, length-map-upto}
 use Rattle.contact_records.specs.Recorded.{intOf, namesAt, pairAt}
-use Rattle.contact_graph.specs.Recorded.{capacityOf, givenOf, listedCount, freeCount, listedAt, freeAt, contactAt, graphOf}
-use Rattle.contact_graph.specs.Range.{stands, InRange}
-use Rattle.contact_graph.specs.RangeLaws.{RightLength, listed-below, listed-once, standing-place}
+use Rattle.contact_graph.specs.Recorded.{listedCount, freeCount, listedAt, freeAt, contactAt, graphOf}
+use Rattle.contact_graph.specs.Range.{stands}
+use Rattle.contact_graph.specs.RangeLaws.{listed-below, listed-once, standing-place}
 use Rattle.contact_graph.specs.Calls.{placeOf, removedWords}
 use Rattle.contact_graph.specs.Checked.{Checked}
 use Rattle.contact_graph.specs.Effects.{RemoveEffect, remove-effect, same-or-not}
 use Rattle.contact_graph.specs.RemoveKeeps.{remove-keeps}
-use Rattle.contact_graph.specs.CallLaws.{Room, removal-room}
+use Rattle.contact_graph.specs.CallLaws.{removal-room}
 use Rattle.contact_graph.specs.AddedGraph.{right-kept, listedPair, listed-counted}
 
 pub removed-effect : {g : List ℕ} (id : ℕ) → Checked g → stands g id ≡ true → RemoveEffect g (removedWords g id) id (placeOf g id) (listedAt g (listedCount g - 1))
@@ -46,7 +45,7 @@ removed-in-range {g} id c s =
 
 -- ---- a pair is what its record's words say, but for the place in the list
 module _ (xs : List ℕ) (a : ℕ) (ys : List ℕ) (b : ℕ) (same : (o : ℕ) → o < record-place.contactSize → o ≢ record-place.pairIndexPlace → wordAt ys (b + o) ≡ wordAt xs (a + o)) where
-  run : (k m : ℕ) → record-place.pairIndexPlace < k → k + m ≤ record-place.contactSize → Same xs (a + k) ys (b + k) m
+  pub run : (k m : ℕ) → record-place.pairIndexPlace < k → k + m ≤ record-place.contactSize → Same xs (a + k) ys (b + k) m
   run k m h l = record { each = λ j i. ap (wordAt ys) (add-assoc b k j) ∙ same (k + j) (omega arith) (omega arith) ∙ ap (wordAt xs) (sym (add-assoc a k j)) }
 
   pub pair-but-place : (id : ℕ) → Counted xs (a + record-place.manifoldsPlace) → pairAt ys b id ≡ pairAt xs a id
@@ -73,12 +72,12 @@ position-at id (p ∷ ps) (suc k) d h e n =
     ap (λ (t : Bool). cond t (some 0) (later (position id ps))) (ne-eqb (p .names .id) id (n zero (zero-lt-suc k)))
     ∙ ap later (position-at id ps k d (le-of-suc-le-suc h) e (λ j l. n (suc j) (suc-le-suc l)))
 
-getD-any {ℓ} : {A : Type ℓ} (l : List A) (i : ℕ) (d e : A) → i < length l → getD l i d ≡ getD l i e
+pub getD-any {ℓ} : {A : Type ℓ} (l : List A) (i : ℕ) (d e : A) → i < length l → getD l i d ≡ getD l i e
 getD-any [] i d e h = absurd (not-suc-le-zero h)
 getD-any (x ∷ l) zero d e h = refl
 getD-any (x ∷ l) (suc i) d e h = getD-any l i d e (le-of-suc-le-suc h)
 
-found-at : (g : Graph) (i : ℕ) (ps : List Pair) (d : Pair) → i < length ps → removedFound g (some i) ps ≡ removedAt g i (getD ps i d)
+pub found-at : (g : Graph) (i : ℕ) (ps : List Pair) (d : Pair) → i < length ps → removedFound g (some i) ps ≡ removedAt g i (getD ps i d)
 unfolding removedFound
 found-at g i [] d h = absurd (not-suc-le-zero h)
 found-at g i (p ∷ ps) d h = ap (removedAt g i) (getD-any (p ∷ ps) i p d h)
@@ -104,30 +103,30 @@ swapped f h n p d l gap rest =
         ]
 
 -- ---- the plain graph
-pair-id : (g : List ℕ) (p : ℕ) → listedPair g p .names .id ≡ listedAt g p
+pub pair-id : (g : List ℕ) (p : ℕ) → listedPair g p .names .id ≡ listedAt g p
 unfolding pairAt namesAt
 pair-id g p = refl
 
 module _ {g : List ℕ} (id : ℕ) (c : Checked g) (s : stands g id ≡ true) where
-  abbrev after : List ℕ
+  abbrev pub after : List ℕ
   after = removedWords g id
 
-  abbrev pairs : List Pair
+  abbrev pub pairs : List Pair
   pairs = map (listedPair g) (upto (listedCount g))
 
-  abbrev gone : Pair
+  abbrev pub gone : Pair
   gone = listedPair g (placeOf g id)
 
-  effect : RemoveEffect g after id (placeOf g id) (listedAt g (listedCount g - 1))
+  pub effect : RemoveEffect g after id (placeOf g id) (listedAt g (listedCount g - 1))
   effect = removed-effect id c s
 
-  here : placeOf g id < listedCount g
+  pub here : placeOf g id < listedCount g
   here = standing-place (c .range) id s .0
 
-  named : listedAt g (placeOf g id) ≡ id
+  pub named : listedAt g (placeOf g id) ≡ id
   named = standing-place (c .range) id s .1
 
-  at-place : (k : ℕ) → k < listedCount g → getD pairs k gone .names .id ≡ listedAt g k
+  pub at-place : (k : ℕ) → k < listedCount g → getD pairs k gone .names .id ≡ listedAt g k
   at-place k l = ap (λ (p : Pair). p .names .id) (getD-map-upto (listedPair g) (listedCount g) k gone l) ∙ pair-id g k
 
   pub removed-position : position id pairs ≡ some (placeOf g id)
@@ -137,29 +136,29 @@ module _ {g : List ℕ} (id : ℕ) (c : Checked g) (s : stands g id ≡ true) wh
       let z = listed-once (c .range) j (placeOf g id) b here (sym (at-place j b) ∙ e ∙ sym named) in omega arith)
 
   -- what the new list names at q is what the old one names at k
-  same-pair : (q k : ℕ) → k < listedCount g → listedAt after q ≡ listedAt g k → listedPair after q ≡ listedPair g k
+  pub same-pair : (q k : ℕ) → k < listedCount g → listedAt after q ≡ listedAt g k → listedPair after q ≡ listedPair g k
   same-pair q k l e =
       pair-but-place g (contactAt g (listedAt g k)) after (contactAt after (listedAt after q))
       (λ o a d. ap (λ (i : ℕ). wordAt after (contactAt after i + o)) e ∙ effect .words (listedAt g k) o (listed-below (c .range) k l) a (λ x y. d y)) (listedAt after q)
       (listed-counted (c .range) k l)
       ∙ ap (pairAt g (contactAt g (listedAt g k))) e
 
-  pairs-after : map (listedPair after) (upto (listedCount after)) ≡ swapRemove pairs (placeOf g id) gone
+  pub pairs-after : map (listedPair after) (upto (listedCount after)) ≡ swapRemove pairs (placeOf g id) gone
   pairs-after =
       ap (λ (m : ℕ). map (listedPair after) (upto m)) (effect .listed)
       ∙ swapped (listedPair g) (listedPair after) (listedCount g) (placeOf g id) gone here (same-pair (placeOf g id) (listedCount g - 1) (omega (arith, here)) (effect .gap))
       (λ q l n. let b : q < listedCount g = omega arith in same-pair q q b (effect .list q b n))
 
-  free-after : map (freeAt after) (upto (freeCount after)) ≡ map (freeAt g) (upto (freeCount g)) ++ gone .names .id ∷ []
+  pub free-after : map (freeAt after) (upto (freeCount after)) ≡ map (freeAt g) (upto (freeCount g)) ++ gone .names .id ∷ []
   free-after =
       ap (λ (m : ℕ). map (freeAt after) (upto m)) (effect .freed) ∙ map-upto-next (freeAt after) (freeCount g)
       ∙ (λ i. map-upto-same (freeAt after) (freeAt g) (freeCount g) (effect .free) i ++ (effect .freeLast ∙ sym named ∙ sym (pair-id g (placeOf g id))) i ∷ [])
 
-  removed-at : graphOf after ≡ removedAt (graphOf g) (placeOf g id) gone
+  pub removed-at : graphOf after ≡ removedAt (graphOf g) (placeOf g id) gone
   unfolding graphOf
   removed-at = λ i. record { capacity = effect .capacity i; given = effect .given i; free = free-after i; pairs = pairs-after i }
 
-  plain-removed : plainRemove id (graphOf g) ≡ removedAt (graphOf g) (placeOf g id) gone
+  pub plain-removed : plainRemove id (graphOf g) ≡ removedAt (graphOf g) (placeOf g id) gone
   unfolding graphOf plainRemove
   plain-removed =
       ap (λ (o : Option ℕ). removedFound (graphOf g) o pairs) removed-position
