@@ -1,0 +1,18 @@
+// Damages a good graph and prints what the calls answer, a line for each damage. The file stdout holds what the table
+// of refusals gives, read by a plain test in Rust (tests/contact_graph.rs): 2 for what is recorded, else no refusal.
+mod case;
+mod graph;
+mod line;
+mod recorded;
+mod unrecorded;
+
+fn main() {
+    recorded::print_numbers();
+    recorded::print_marks();
+    recorded::print_counts();
+    recorded::print_ids();
+    recorded::print_pairs();
+    unrecorded::print_limits();
+    unrecorded::print_lists();
+    unrecorded::print_records();
+}

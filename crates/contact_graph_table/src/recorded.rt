@@ -1,0 +1,84 @@
+// What a graph of capacity 8 records: the ids given, the numbers listed and free, the listed ids and the free ones in
+// order, and a sum over the listed contacts' records. A word behind a mark of 0 is not recorded: the sum has 0 for it.
+use crate::draws::low;
+use crate::line::print_name;
+use crate::line::print_number;
+
+// Where the list, the free ids and the records begin.
+const LIST_PLACE: u32 = 4;
+
+const FREE_PLACE: u32 = 12;
+
+const RECORDS_PLACE: usize = 20;
+
+// 0 past the end.
+fn word(graph: &[u32], at: usize) -> u32 {
+    if at < graph.len() { graph[at] } else { 0 }
+}
+
+fn print_ids(graph: &[u32], from: u32, count: u32) {
+    let mut k = 0;
+    while k < count {
+        print_number(word(graph, from as usize + k as usize));
+        k += 1;
+    }
+}
+
+fn record_word(graph: &[u32], id: u32, k: u32) -> u32 {
+    word(graph, RECORDS_PLACE + id as usize * 523 + k as usize)
+}
+
+// The k-th word of a record, or 0 where that records nothing.
+fn recorded_word(graph: &[u32], id: u32, k: u32) -> u32 {
+    let mark = match k {
+        3 => record_word(graph, id, 2),
+        5 => record_word(graph, id, 4),
+        21..=35 => record_word(graph, id, 20),
+        _ => 1,
+    };
+    if mark == 0 {
+        0
+    } else {
+        record_word(graph, id, k)
+    }
+}
+
+fn fold(sum: u32, word: u32) -> u32 {
+    low((sum as u64 + word as u64) * 16777619 + 1) as u32
+}
+
+// The record as far as the number of manifolds.
+fn add_record(graph: &[u32], id: u32, before: u32) -> u32 {
+    let mut sum = before;
+    let mut k = 0;
+    while k < 37 {
+        sum = fold(sum, recorded_word(graph, id, k));
+        k += 1;
+    }
+    sum
+}
+
+fn records_sum(graph: &[u32], count: u32) -> u32 {
+    let mut sum = 0;
+    let mut p = 0;
+    while p < count {
+        sum = add_record(graph, word(graph, LIST_PLACE as usize + p as usize), sum);
+        p += 1;
+    }
+    sum
+}
+
+pub fn print_recorded(graph: &[u32]) {
+    let listed = word(graph, 2);
+    let freed = word(graph, 3);
+    print_name(b"\tgraph");
+    print_number(word(graph, 1));
+    print_number(listed);
+    print_number(freed);
+    print_name(b"\tlist");
+    print_ids(graph, LIST_PLACE, listed);
+    print_name(b"\tfree");
+    print_ids(graph, FREE_PLACE, freed);
+    print_name(b"\trecords");
+    print_number(records_sum(graph, listed));
+}
