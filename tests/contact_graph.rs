@@ -1,6 +1,6 @@
-// The expected output of crates/contact_graph_table and crates/contact_graph_damage from a plain model of the graph:
-// rustc -O -o /tmp/contact_graph tests/contact_graph.rs
-// && /tmp/contact_graph damage > crates/contact_graph_damage/stdout
+// The expected output of crates/contact_graph_table and crates/contact_graph_damage from a plain model after document 01:
+// rustc -O -o /tmp/contact_graph tests/contact_graph.rs && /tmp/contact_graph table > crates/contact_graph_table/stdout
+// /tmp/contact_graph damage > crates/contact_graph_damage/stdout
 
 // ---- The model: the pairs in order, the ids given, the free ids in the order freed.
 #[derive(Clone, Copy)]
@@ -23,7 +23,9 @@ const PLACEHOLDER: u32 = u32::MAX;
 
 fn number_strays(a: &Request) -> bool {
     a.colliders.iter().any(|c| *c >= 256)
-        || a.bodies.iter().any(|(mark, n)| *mark > 1 || *mark == 1 && *n >= 128)
+        || a.bodies
+            .iter()
+            .any(|(mark, n)| *mark > 1 || *mark == 1 && *n >= 128)
         || a.contact_events > 1
         || a.modify_contacts > 1
 }
@@ -55,7 +57,11 @@ impl Graph {
         if c == d {
             return Err(3);
         }
-        if self.pairs.iter().any(|p| p.1.colliders == [c, d] || p.1.colliders == [d, c]) {
+        if self
+            .pairs
+            .iter()
+            .any(|p| p.1.colliders == [c, d] || p.1.colliders == [d, c])
+        {
             return Err(4);
         }
         if self.pairs.len() == self.capacity {
@@ -137,7 +143,13 @@ fn found(g: &Graph, id: u32) -> String {
     match g.place(id) {
         Ok(place) => {
             let a = &g.pairs[place].1;
-            let body = |(mark, n): (u32, u32)| if mark == 1 { n.to_string() } else { "none".into() };
+            let body = |(mark, n): (u32, u32)| {
+                if mark == 1 {
+                    n.to_string()
+                } else {
+                    "none".into()
+                }
+            };
             format!(
                 "\tedge{}\t{}\t{}{}",
                 numbers(&[id, a.colliders[0], a.colliders[1]]),
@@ -151,7 +163,9 @@ fn found(g: &Graph, id: u32) -> String {
 }
 
 // ---- The calls of the table.
-const DISTANCES: [u32; 6] = [0, 0x3f800000, 0x80000000, 0x3dcccccd, 0x7fc00000, 0x7f800000];
+const DISTANCES: [u32; 6] = [
+    0, 0x3f800000, 0x80000000, 0x3dcccccd, 0x7fc00000, 0x7f800000,
+];
 
 fn draw(key: u32, slot: u32) -> u32 {
     let low = |x: u64| x % (1 << 32);
@@ -163,17 +177,29 @@ fn draw(key: u32, slot: u32) -> u32 {
 
 fn collider(key: u32, slot: u32) -> u32 {
     let d = draw(key, slot);
-    if d % 64 == 0 { 256 + d / 64 % 3 } else { d / 64 % 6 * 51 }
+    if d % 64 == 0 {
+        256 + d / 64 % 3
+    } else {
+        d / 64 % 6 * 51
+    }
 }
 
 fn mark(key: u32, slot: u32) -> u32 {
     let d = draw(key, slot);
-    if d % 64 == 0 { 2 } else { d / 64 % 2 }
+    if d % 64 == 0 {
+        2
+    } else {
+        d / 64 % 2
+    }
 }
 
 fn body(key: u32, slot: u32) -> u32 {
     let d = draw(key, slot);
-    if d % 16 == 0 { 128 + d / 16 % 5000 } else { d / 16 % 128 }
+    if d % 16 == 0 {
+        128 + d / 16 % 5000
+    } else {
+        d / 16 % 128
+    }
 }
 
 fn request(key: u32) -> Request {
@@ -205,8 +231,15 @@ fn call(g: &mut Graph, c: u32, counts: &mut [u32; 10]) {
         print!(
             "add{}{}",
             numbers(&[
-                a.colliders[0], a.colliders[1], a.bodies[0].0, a.bodies[0].1, a.bodies[1].0,
-                a.bodies[1].1, a.contact_events, a.modify_contacts, a.distance
+                a.colliders[0],
+                a.colliders[1],
+                a.bodies[0].0,
+                a.bodies[0].1,
+                a.bodies[1].0,
+                a.bodies[1].1,
+                a.contact_events,
+                a.modify_contacts,
+                a.distance
             ]),
             added(&answer)
         );
@@ -224,7 +257,10 @@ fn call(g: &mut Graph, c: u32, counts: &mut [u32; 10]) {
 }
 
 fn lay_out_line(length: usize, capacity: u32) {
-    println!("lay_out\t{capacity}{}", answered(&lay_out(length, capacity).map(|_| ())));
+    println!(
+        "lay_out\t{capacity}{}",
+        answered(&lay_out(length, capacity).map(|_| ()))
+    );
 }
 
 fn table() {
@@ -234,7 +270,15 @@ fn table() {
     for c in 0..600 {
         call(&mut g, c, &mut counts);
     }
-    for (length, capacity) in [(529, 1), (529, 0), (529, 2), (529, u32::MAX), (4, 0), (528, 1), (530, 1)] {
+    for (length, capacity) in [
+        (529, 1),
+        (529, 0),
+        (529, 2),
+        (529, u32::MAX),
+        (4, 0),
+        (528, 1),
+        (530, 1),
+    ] {
         lay_out_line(length, capacity);
     }
     lay_out_line(134929, 257);
@@ -249,8 +293,15 @@ fn table() {
         distance: 0,
     };
     let accepted = (0..255).filter(|c| g.add(nth(*c)).is_ok()).count();
-    println!("fill\t{accepted}{}{}", added(&g.add(nth(255))), added(&g.add(nth(256))));
-    eprintln!("added, refused 2, 3, 4, 5; removed or not, found or not: {:?}", &counts);
+    println!(
+        "fill\t{accepted}{}{}",
+        added(&g.add(nth(255))),
+        added(&g.add(nth(256)))
+    );
+    eprintln!(
+        "added, refused 2, 3, 4, 5; removed or not, found or not: {:?}",
+        &counts
+    );
     assert!(counts[0] >= 10 && counts[1] == 0 && counts[2..].iter().all(|n| *n >= 10));
 }
 
@@ -312,8 +363,18 @@ fn strays(w: &[u32]) -> bool {
     free_twice || both || neither || pair_twice || not_naming || record_strays
 }
 
+fn refusal(w: &[u32]) -> u32 {
+    if lay_out(w.len(), w[0]).is_err() {
+        1
+    } else if strays(w) {
+        2
+    } else {
+        0
+    }
+}
+
 // The damaged graph's contact 0 stands in every case that is not refused, and 1 was freed last.
-fn damaged(name: &str, refused: bool, changes: &[(usize, u32)], filled: std::ops::Range<usize>) {
+fn damaged(name: &str, refused: u32, changes: &[(usize, u32)], filled: std::ops::Range<usize>) {
     let mut g = lay_out(2104, 4).ok().unwrap();
     for (c, d, mark) in [(10, 20, 0), (30, 40, 1), (50, 60, 1)] {
         let a = Request {
@@ -331,17 +392,26 @@ fn damaged(name: &str, refused: bool, changes: &[(usize, u32)], filled: std::ops
         words[*at] = *word;
     }
     words[filled].fill(u32::MAX);
-    assert_eq!(strays(&words), refused, "{name}");
-    if refused {
-        println!("{name}\trefused\t2\trefused\t2\trefused\t2\tsame");
+    assert_eq!(refusal(&words), refused, "{name}");
+    if refused != 0 {
+        println!("{name}\trefused\t{refused}\trefused\t{refused}\trefused\t{refused}\tsame");
     } else {
-        println!("{name}\tedge\t{}\t{}\tid\t1\tdone\tchanged", words[12], words[13]);
+        println!(
+            "{name}\tedge\t{}\t{}\tid\t1\tdone\tchanged",
+            words[12], words[13]
+        );
     }
 }
 
 fn damage() {
     let max = u32::MAX;
-    let strays = |name: &str, changes: &[(usize, u32)]| damaged(name, true, changes, 0..0);
+    let misfits = |name: &str, changes: &[(usize, u32)]| damaged(name, 1, changes, 0..0);
+    misfits("capacity 0", &[(0, 0)]);
+    misfits("capacity 3", &[(0, 3)]);
+    misfits("capacity 5", &[(0, 5)]);
+    misfits("capacity 257", &[(0, 257)]);
+    misfits("largest capacity, a collider too", &[(0, max), (12, 256)]);
+    let strays = |name: &str, changes: &[(usize, u32)]| damaged(name, 2, changes, 0..0);
     strays("collider 1", &[(12, 256)]);
     strays("collider 2", &[(13, 256)]);
     strays("collider 1 of the last", &[(1058, 256)]);
@@ -352,7 +422,7 @@ fn damage() {
     strays("body 2 by a mark", &[(16, 1), (17, 128)]);
     for (name, at) in [("mark", 12), ("mark of the last", 1058)] {
         for k in [2, 4, 7, 8, 9, 10, 11, 12, 13, 14, 15, 16, 17, 20] {
-            strays(name, &[(at + k, 2)]);
+            strays(&format!("{name}\t{k}"), &[(at + k, 2)]);
         }
     }
     strays("7 manifolds", &[(48, 7)]);
@@ -369,25 +439,42 @@ fn damage() {
     strays("free and standing", &[(3, 2), (9, 0)]);
     strays("neither, none free", &[(3, 0)]);
     strays("neither, one more given", &[(1, 4)]);
-    strays("listed, never given", &[(2, 3), (6, 3), (1581, 1), (1582, 2), (1587, 2)]);
+    strays(
+        "listed, never given",
+        &[(2, 3), (6, 3), (1581, 1), (1582, 2), (1587, 2)],
+    );
     strays("largest listed id", &[(5, max)]);
     strays("free, never given", &[(3, 2), (9, 3)]);
     strays("largest free id", &[(3, 2), (9, max)]);
     strays("pair twice", &[(1058, 10), (1059, 20)]);
     strays("pair twice, turned", &[(1058, 20), (1059, 10)]);
-    strays("lone collider twice", &[(12, 7), (13, 7), (1058, 7), (1059, 7)]);
+    strays(
+        "lone collider twice",
+        &[(12, 7), (13, 7), (1058, 7), (1059, 7)],
+    );
     strays("place of the other", &[(18, 1)]);
     strays("place past the list", &[(18, 2)]);
     strays("largest place", &[(1064, max)]);
     strays("listed twice", &[(5, 0)]);
     strays("list turned", &[(4, 2), (5, 0)]);
 
-    let stays = |name: &str, changes: &[(usize, u32)]| damaged(name, false, changes, 0..0);
-    let filled = |name: &str, changes: &[(usize, u32)], places| damaged(name, false, changes, places);
+    let stays = |name: &str, changes: &[(usize, u32)]| damaged(name, 0, changes, 0..0);
+    let filled = |name: &str, changes: &[(usize, u32)], places| damaged(name, 0, changes, places);
     stays("as built", &[]);
     stays("last collider and body", &[(12, 255), (15, 127)]);
     stays("lone collider once", &[(12, 7), (13, 7)]);
-    stays("6 manifolds of 4 points", &[(48, 6), (49, 4), (130, 4), (211, 4), (292, 4), (373, 4), (454, 4)]);
+    stays(
+        "6 manifolds of 4 points",
+        &[
+            (48, 6),
+            (49, 4),
+            (130, 4),
+            (211, 4),
+            (292, 4),
+            (373, 4),
+            (454, 4),
+        ],
+    );
     filled("count change and distance", &[], 30..32);
     filled("list past its count", &[], 6..8);
     stays("list past its count, a standing id", &[(6, 0)]);

@@ -1,8 +1,22 @@
 // Damages of what is recorded, each condition of refusal 2 by itself where it can be. A record's marks stand at 2, 4, 7 to
 // 17 and 20, its number of manifolds at 36, their numbers of points from 37 on, each 81 after the last.
 use crate::case::print_case;
+use crate::line::print_name;
+use crate::line::print_number;
 
 const MARKS: [u32; 14] = [2, 4, 7, 8, 9, 10, 11, 12, 13, 14, 15, 16, 17, 20];
+
+// Refusal 1, which comes before 2.
+pub fn print_capacities() {
+    print_case(b"capacity 0", &[0, 0]);
+    print_case(b"capacity 3", &[0, 3]);
+    print_case(b"capacity 5", &[0, 5]);
+    print_case(b"capacity 257", &[0, 257]);
+    print_case(
+        b"largest capacity, a collider too",
+        &[0, 4294967295, 12, 256],
+    );
+}
 
 pub fn print_numbers() {
     print_case(b"collider 1", &[12, 256]);
@@ -16,7 +30,9 @@ pub fn print_numbers() {
 }
 
 fn print_mark(name: &[u8], at: u32, k: u32) {
-    print_case(name, &[std::num::wrapping_add_u32(at, k), 2]);
+    print_name(name);
+    print_number(k);
+    print_case(b"", &[std::num::wrapping_add_u32(at, k), 2]);
 }
 
 // Each mark of the record that begins at a place.

@@ -14,4 +14,5 @@ abbrev μ-loop : tie.MeasureT-loop
 pub same-spec : {M : Type 1} → statement M
 same-spec =
     tie.close
-    (tie.spec Inv-loop μ-loop (search needs) (search needs) (search needs) (search needs) (search needs) (search needs) (search needs) (search needs) (search needs) (search needs) (search needs))
+    (tie.spec Inv-loop μ-loop (search needs) (search needs) (search needs) (search needs) (search needs) (search needs) (search needs)
+    (search needs) (search needs) (search needs) (search needs))

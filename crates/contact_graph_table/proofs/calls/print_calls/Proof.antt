@@ -15,4 +15,5 @@ abbrev μ-loop : tie.MeasureT-loop
 pub print-calls-spec : {M : Type 1} → statement M
 print-calls-spec =
     tie.close
-    (tie.spec Inv-loop μ-loop (search needs) (search needs) (search needs) (search needs) (search needs) (search needs) (search needs) (search needs) (search needs))
+    (tie.spec Inv-loop μ-loop (search needs) (search needs) (search needs) (search needs) (search needs) (search needs) (search needs)
+    (search needs) (search needs))

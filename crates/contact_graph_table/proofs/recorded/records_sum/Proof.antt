@@ -13,4 +13,5 @@ abbrev μ-loop : tie.MeasureT-loop
 pub records-sum-spec : {M : Type 1} → statement M
 records-sum-spec =
     tie.close
-    (tie.spec Inv-loop μ-loop (search needs) (search needs) (search needs) (search needs) (search needs) (search needs) (search needs) (search needs) (search needs) (search needs))
+    (tie.spec Inv-loop μ-loop (search needs) (search needs) (search needs) (search needs) (search needs) (search needs) (search needs)
+    (search needs) (search needs) (search needs))
