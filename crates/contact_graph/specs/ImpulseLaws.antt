@@ -17,8 +17,8 @@ use Rattle.rows.specs.SlotLaws.{slots-apart}
 use Rattle.rules.specs.Limits.{bodies}
 use Rattle.rules.specs.Numbers.{any}
 use Rattle.rules.specs.NumberLaws.{any-same}
-use Rattle.words.specs.Words.{wordAt, vec3At}
-use Rattle.contact_records.specs.Apart.{names-same, edge-same, flags-same, cache-same}
+use Rattle.words.specs.Words.{wordAt}
+use Rattle.contact_records.specs.Apart.{vec3-same, names-same, edge-same, flags-same, cache-same}
 use Rattle.contact_records.specs.Held.{Same, same-in, word-same, first-same}
 use Rattle.contact_records.specs.Layout as record-place
 use Rattle.contact_records.specs.Lists.{map-upto-same}
@@ -48,9 +48,6 @@ same-word m n j k u v a b c d e = same-offset 18 j k u v c d (same-offset 81 m n
 pub map-map {ℓ ℓ′} : {A : Type ℓ} {B : Type ℓ′} (f : A → B) (h : ℕ → A) (l : List ℕ) → map f (map h l) ≡ map (λ k. f (h k)) l
 map-map f h [] = refl
 map-map f h (x ∷ l) = ap (λ r. f (h x) ∷ r) (map-map f h l)
-
-pub vec3-same : {xs ys : List ℕ} {a b : ℕ} → Same xs a ys b 3 → vec3At ys b ≡ vec3At xs a
-vec3-same s = λ i. record { x = ofBits binary32 (first-same s tt i); y = ofBits binary32 (word-same s 1 tt i); z = ofBits binary32 (word-same s 2 tt i) }
 
 module _ {g h : List ℕ} (c : Checked g) (w : ImpulsesWritten g h) where
   pub head-kept : (j : ℕ) → j < 4 + 2 * capacityOf g → wordAt h j ≡ wordAt g j

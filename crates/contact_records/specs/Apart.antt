@@ -23,7 +23,7 @@ row-in : (n size count k : ℕ) → k < n → n ≤ count → k * size + size �
 row-in n size count k h l = let m : suc k * size ≤ count * size = mul-le-mul-right size (let z : suc k ≤ count = omega arith in z) in omega (arith, suc-mul k size)
 
 module _ {xs ys : List ℕ} where
-  vec3-same : {a b : ℕ} → Same xs a ys b 3 → vec3At ys b ≡ vec3At xs a
+  pub vec3-same : {a b : ℕ} → Same xs a ys b 3 → vec3At ys b ≡ vec3At xs a
   vec3-same s = λ i. record { x = ofBits binary32 (first-same s tt i); y = ofBits binary32 (word-same s 1 tt i); z = ofBits binary32 (word-same s 2 tt i) }
 
   quat-same : {a b : ℕ} → Same xs a ys b 4 → quatAt ys b ≡ quatAt xs a
