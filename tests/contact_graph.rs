@@ -437,6 +437,11 @@ fn damage() {
     strays("largest free", &[(3, max)]);
     strays("free twice", &[(3, 2), (9, 1)]);
     strays("free and standing", &[(3, 2), (9, 0)]);
+    strays("free and listed", &[(2, 3), (6, 1), (541, 2)]);
+    strays(
+        "free and listed, another's place",
+        &[(2, 3), (6, 1), (541, 0)],
+    );
     strays("neither, none free", &[(3, 0)]);
     strays("neither, one more given", &[(1, 4)]);
     strays(

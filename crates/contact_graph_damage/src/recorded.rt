@@ -65,6 +65,8 @@ pub fn print_counts() {
 pub fn print_ids() {
     print_case(b"free twice", &[3, 2, 9, 1]);
     print_case(b"free and standing", &[3, 2, 9, 0]);
+    print_case(b"free and listed", &[2, 3, 6, 1, 541, 2]);
+    print_case(b"free and listed, another's place", &[2, 3, 6, 1, 541, 0]);
     print_case(b"neither, none free", &[3, 0]);
     print_case(b"neither, one more given", &[1, 4]);
     print_case(
