@@ -24,5 +24,6 @@ pub mod LookUpLaws
 pub mod AddLaws
 pub mod AddedGraph
 pub mod RemovedGraph
+pub mod LookedUpGraph
 pub mod Impulses
 pub mod ImpulseLaws
