@@ -1,4 +1,4 @@
-// The expected output of crates/contact_graph_table and crates/contact_graph_damage from a plain model after document 01:
+// The expected output of crates/contact_graph_table and crates/contact_graph_damage from a plain model after the specification:
 // rustc -O -o /tmp/contact_graph tests/contact_graph.rs && /tmp/contact_graph table > crates/contact_graph_table/stdout
 // /tmp/contact_graph damage > crates/contact_graph_damage/stdout
 

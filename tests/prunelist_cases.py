@@ -1,5 +1,5 @@
 #!/usr/bin/env python3
-# Makes crates/prunelist_cases/data and its stdout, and prunelist's stdin and stdout, from document 01 alone
+# Makes crates/prunelist_cases/data and its stdout, and prunelist's stdin and stdout, from the specification alone
 # ('Prune listing', 'Matching and pruning', 'Float leaves'). Run from the repository's root; it uses no code of it.
 import math, os, re, struct
 

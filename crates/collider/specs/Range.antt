@@ -1,4 +1,4 @@
--- Refusal 2 (document 01's 'stray number') of settings, colliders and bodies, condition by condition. Definitions only.
+-- Refusal 2 of settings, colliders and bodies, condition by condition. Definitions only.
 -- Of each of the 256 and 128 records the presence mark is tested, and the rest where that is 1. Nothing behind a mark of 0 is asked.
 use Prim.Native.Nat.{ℕ, _+_, _*_}
 use mathlib.Core.Bool.{Bool, true, cond, _&&_}

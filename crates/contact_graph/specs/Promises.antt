@@ -1,5 +1,5 @@
 -- The promises of the graph's calls: the answer and every word of the lent graph at exit, in a refusal too. Definitions only.
--- An answer's cases have document 01's numbers and values: `refused` with the refusal's number.
+-- An answer's cases have the specification's numbers and values: `refused` with the refusal's number.
 use Prim.Native.Nat.{ℕ}
 use mathlib.Core.Path.{_≡_}
 use mathlib.Core.Bool.{cond}

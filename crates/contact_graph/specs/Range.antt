@@ -1,4 +1,4 @@
--- Refusals 1 and 2 of a lent graph (document 01's 'short sheet' and 'stray number'), condition by condition. Definitions only.
+-- Refusals 1 and 2 of a lent graph, condition by condition. Definitions only.
 -- Nothing is asked of what is not recorded: places past a count, what stands behind a mark of 0, records of ids that do not stand.
 use Prim.Native.Nat.{ℕ, _+_, _*_}
 use mathlib.Core.Bool.{Bool, true, cond, not, _&&_, _||_}

@@ -233,10 +233,11 @@ pub fn add(graph: &mut [u32], a: Request) -> AddAnswer
     if a.collider1 == a.collider2 {
         return AddAnswer::Refused(Refusal::SameCollider);
     }
+    let full = number_at(graph, LISTED_PLACE) == number_at(graph, 0);
     if pair_stands(graph, a.collider1, a.collider2) {
         return AddAnswer::Refused(Refusal::PairExists);
     }
-    if number_at(graph, LISTED_PLACE) == number_at(graph, 0) {
+    if full {
         return AddAnswer::Refused(Refusal::GraphFull);
     }
     AddAnswer::Added(add_new(graph, a))

@@ -1,4 +1,4 @@
--- The refusals: each one's number in document 01's table, and its word there. Definitions only.
+-- The refusals: each one's number in the specification's table, and its word there. Definitions only.
 use Prim.Native.Nat.{ℕ}
 use Rattle.contact_types.specs.declared.refusal.Refusal.{Refusal}
 use Rattle.contact_types.specs.declared.refusal.Refusal.the-variants.{WrongLength, OutOfRange, SameCollider, PairExists, GraphFull, ProposalTooLarge, InvalidShares, TooFewPoints, NoContact}

@@ -1,4 +1,4 @@
--- A quaternion's matrix, and a matrix applied, as document 01, 'Float leaves', writes them. Definitions only.
+-- A quaternion's matrix, and a matrix applied, as the specification, 'Float leaves', writes them. Definitions only.
 use lib.Ieee.{Float}
 use Rattle.math.specs.Floats.{_⊕_, _⊖_, _⊗_}
 use Rattle.math.specs.Constants.{one}

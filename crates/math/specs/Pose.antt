@@ -1,4 +1,4 @@
--- A pose in another pose's space (document 01, rule 4). Definitions only.
+-- A pose in another pose's space (the specification, rule 4). Definitions only.
 use Rattle.math.specs.Vec.{_-v_}
 use Rattle.math.specs.Quat.{inverse, times, rotate}
 use Rattle.math.specs.declared.pose.Pose.{Pose}

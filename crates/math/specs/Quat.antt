@@ -1,4 +1,4 @@
--- Quaternions, as document 01, 'Float leaves', writes them. Definitions only.
+-- Quaternions, as the specification, 'Float leaves', writes them. Definitions only.
 use lib.Ieee.{Float, neg}
 use Rattle.math.specs.Floats.{_⊕_, _⊖_, _⊗_}
 use Rattle.math.specs.Constants.{zeroF, one, two}

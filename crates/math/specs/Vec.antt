@@ -1,4 +1,4 @@
--- Vectors, each operation of `lib.Ieee` rounded where document 01, 'Float leaves', writes it. Definitions only.
+-- Vectors, each operation of `lib.Ieee` rounded where the specification, 'Float leaves', writes it. Definitions only.
 -- They stay shut above this crate: a caller goes by these names.
 use mathlib.Core.Bool.{cond}
 use lib.Ieee.{Float, neg, lt}

@@ -1,4 +1,4 @@
--- The answer to a text: document 01, 'Prune listing' and 'Matching and pruning'. Definitions only.
+-- The answer to a text: the specification, 'Prune listing' and 'Matching and pruning'. Definitions only.
 use Prim.Native.Nat.{ℕ, _≤_, _<_}
 use mathlib.Core.Path.{_≡_}
 use mathlib.Core.Bool.{cond}

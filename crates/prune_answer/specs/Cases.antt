@@ -1,4 +1,4 @@
--- C1 of document 01, from its text to the lines that it prints. Assumes nothing.
+-- C1 of the specification, from its text to the lines that it prints. Assumes nothing.
 use mathlib.Core.Path.{_≡_, ap}
 use mathlib.Core.List.{[], _∷_}
 use mathlib.Core.Option.{Option}

@@ -1,4 +1,4 @@
--- Texts and what they read to: C1 of document 01, what may differ, and what is unreadable. Assumes nothing.
+-- Texts and what they read to: C1 of the specification, what may differ, and what is unreadable. Assumes nothing.
 use mathlib.Core.Path.{_≡_, refl, sym, ap, _∙_}
 use Prim.Native.Nat.{ℕ, _+_, _-_, _≤_}
 use native.Mathlib.Omega.{arith}

@@ -1,4 +1,4 @@
--- The text that `prunelist` reads: document 01, 'Prune listing'. A text is its bytes. Definitions only.
+-- The text that `prunelist` reads: the specification, 'Prune listing'. A text is its bytes. Definitions only.
 -- One N line with three words, then P lines with four each. Whatever is not of this form reads to `none`.
 use Prim.Native.Nat.{ℕ, zero, suc, _+_, _-_, _*_}
 use mathlib.Core.Bool.{Bool, cond, _&&_}

@@ -1,4 +1,4 @@
-// The text that `prunelist` reads, and the lines that it writes: document 01, 'Prune listing'.
+// The text that `prunelist` reads, and the lines that it writes: the specification, 'Prune listing'.
 mod lines;
 pub mod reader;
 mod words;

@@ -1,5 +1,5 @@
 // Reads a listing of points from standard input, and writes the numbers of those that pruning keeps,
-// or a refusal's: document 01, 'Prune listing'. The files stdin and stdout are its case C1.
+// or a refusal's: the specification, 'Prune listing'. The files stdin and stdout are its case C1.
 use libc::STDIN_FILENO;
 use libc::STDOUT_FILENO;
 use prune_answer::answer::answer;

@@ -1,5 +1,5 @@
 // Prints for each file of data/ its name and the answer to it. The file stdout was not made by this program:
-// tests/prunelist_cases.py made it, and the files of data/, from document 01 alone ('Prune listing', 'Matching and pruning').
+// tests/prunelist_cases.py made it, and the files of data/, from the specification alone ('Prune listing', 'Matching and pruning').
 use libc::STDOUT_FILENO;
 use prune_answer::answer::answer;
 

@@ -1,4 +1,4 @@
--- The proved cases of document 01 ('Prune listing') as one table, with a theorem for the whole. Assumes nothing.
+-- The proved cases of the specification ('Prune listing') as one table, with a theorem for the whole. Assumes nothing.
 use Prim.Native.Nat.{ℕ}
 use mathlib.Core.Path.{_≡_, refl}
 use mathlib.Core.Bool.{Bool, true, false, cond}

@@ -1,4 +1,4 @@
--- The graph as a plain value, and what lay out, add, look up and remove do to it: document 01, 'The door' and 'Status pass'. Definitions only.
+-- The graph as a plain value, and what lay out, add, look up and remove do to it: the specification, 'The door' and 'Status pass'. Definitions only.
 use Prim.Native.Nat.{ℕ, zero, suc, _-_}
 use mathlib.Core.Bool.{Bool, true, false, cond}
 use mathlib.Core.List.{List, [], _∷_, _++_}

@@ -1,4 +1,4 @@
--- What a step takes, read into plain values: settings, colliders, bodies, proposals and hook answers (document 01, 'The door'). Definitions only.
+-- What a step takes, read into plain values: settings, colliders, bodies, proposals and hook answers (the specification, 'The door'). Definitions only.
 use Prim.Native.Nat.{ℕ}
 use mathlib.Core.Bool.{Bool}
 use mathlib.Core.List.{List}

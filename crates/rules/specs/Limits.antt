@@ -1,4 +1,4 @@
--- The limits of document 01, in one place. Definitions only.
+-- The limits of the specification, in one place. Definitions only.
 use Prim.Native.Nat.{ℕ}
 
 -- points of a stored manifold

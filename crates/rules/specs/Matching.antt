@@ -1,4 +1,4 @@
--- `match_contacts`: document 01, 'Matching and pruning', and rule 11. Definitions only.
+-- `match_contacts`: the specification, 'Matching and pruning', and rule 11. Definitions only.
 use Prim.Native.Nat.{ℕ}
 use mathlib.Core.Bool.{Bool, _&&_, _||_}
 use mathlib.Core.List.{List, [], _∷_, map}

@@ -1,4 +1,4 @@
--- Laws of matching, and case C10 of document 01. Assumes nothing.
+-- Laws of matching, and case C10 of the specification. Assumes nothing.
 use Prim.Native.Nat.{ℕ, zero, suc, _+_, _<_}
 use native.Mathlib.Nat.{not-suc-le-zero}
 use native.Mathlib.Numerals.{add-one}

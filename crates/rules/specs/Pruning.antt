@@ -1,4 +1,4 @@
--- `prune_points`: document 01, 'Matching and pruning'. Points go by their numbers from 0, in the order given. Definitions only.
+-- `prune_points`: the specification, 'Matching and pruning'. Points go by their numbers from 0, in the order given. Definitions only.
 use Prim.Native.Nat.{ℕ}
 use mathlib.Core.Bool.{Bool, true, not, _&&_}
 use mathlib.Core.List.{List, [], _∷_, _++_}

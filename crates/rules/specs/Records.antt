@@ -1,4 +1,4 @@
--- The records of document 01 as plain values. An optional value is an `Option`, and a mark is a `Bool`. Definitions only.
+-- The records of the specification as plain values. An optional value is an `Option`, and a mark is a `Bool`. Definitions only.
 use Prim.Native.Nat.{ℕ}
 use mathlib.Core.Bool.{Bool}
 use mathlib.Core.List.{List}

@@ -1,4 +1,4 @@
--- One pair's update, rules 1 to 12 of document 01, on plain values. Definitions only.
+-- One pair's update, rules 1 to 12 of the specification, on plain values. Definitions only.
 use Prim.Native.Nat.{ℕ, zero, suc}
 use mathlib.Core.Bool.{Bool, true, false, cond, not, _&&_, _||_}
 use mathlib.Core.List.{List, [], map}
