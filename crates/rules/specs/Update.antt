@@ -18,11 +18,24 @@ use Rattle.rules.specs.Recycling.{recycles, recycledManifold}
 use Rattle.rules.specs.Sides.{overlap, interact, Side, sideOf}
 use Rattle.rules.specs.Surface.{Surface, surfaceOf}
 
--- the pair, its status bit, whether it was recycled, and the reported contact distance
+-- which way an update went: ended by rule 1, by rule 2, by rule 5, or made in full
+pub data Way : Type 0 where
+  skipped : Way
+  apart : Way
+  recycled : Way
+  full : Way
+
+abbrev pub isRecycled : Way → Bool
+isRecycled skipped = false
+isRecycled apart = false
+isRecycled recycled = true
+isRecycled full = false
+
+-- the pair, the way it went, its status bit, and the reported contact distance
 pub record Updated : Type 0 where
   pub pair : Pair
+  pub way : Way
   pub bit : Bool
-  pub recycled : Bool
   pub distance : Float
 
 -- the body that a collider names
@@ -156,24 +169,24 @@ renewed i c1 c2 a b p =
       speculative = zeroF;
       cache = some (cacheOf a b);
     } in
-    record { pair = q; bit = statusBit (p .flags) on touching change; recycled = false; distance = f .margins ⊕ f .distance }
+    record { pair = q; way = full; bit = statusBit (p .flags) on touching change; distance = f .margins ⊕ f .distance }
 
 -- rules 4 to 12, once the boxes overlap and the layers interact
 unfoldable pub overlapping : Inputs → Collider → Collider → Side → Side → Pair → Bool → Option Cache → Updated
-overlapping i c1 c2 a b p true (some k) = record { pair = recycledPair a b k p; bit = false; recycled = true; distance = zeroF }
+overlapping i c1 c2 a b p true (some k) = record { pair = recycledPair a b k p; way = recycled; bit = false; distance = zeroF }
 overlapping i c1 c2 a b p true none = renewed i c1 c2 a b p
 overlapping i c1 c2 a b p false k = renewed i c1 c2 a b p
 
 -- rule 1: either collider absent, and nothing changes
 unfoldable pub updatedBetween : Inputs → Pair → Option Collider → Option Collider → Updated
-updatedBetween i p none c2 = record { pair = p; bit = false; recycled = false; distance = zeroF }
-updatedBetween i p (some c1) none = record { pair = p; bit = false; recycled = false; distance = zeroF }
+updatedBetween i p none c2 = record { pair = p; way = skipped; bit = false; distance = zeroF }
+updatedBetween i p (some c1) none = record { pair = p; way = skipped; bit = false; distance = zeroF }
 updatedBetween i p (some c1) (some c2) =
     let a = sideOf c1 (bodyOf i (c1 .body)) in
     let b = sideOf c2 (bodyOf i (c2 .body)) in
     cond (overlap c1 c2 (p .speculative) && interact c1 c2)
     (overlapping i c1 c2 a b p (recycles (i .settings) (p .flags .touching) a b (p .cache)) (p .cache))
-    (record { pair = disjoint p; bit = true; recycled = false; distance = zeroF })
+    (record { pair = disjoint p; way = apart; bit = true; distance = zeroF })
 
 unfoldable pub updated : Inputs → Pair → Updated
 updated i p = updatedBetween i p (i .collider (p .names .collider1)) (i .collider (p .names .collider2))
