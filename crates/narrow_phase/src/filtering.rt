@@ -3,21 +3,11 @@ ghost use mathlib.Core.Path.{_≡_};
 ghost use Rattle.rules.specs.Filtering.{movedAnchor, normalSpeedAt, movedPoint, stays};
 ghost use Rattle.collider.specs.Views.{plainSide};
 ghost use Rattle.contact_types.specs.Views.{pointOf};
-ghost use Rattle.narrow_phase.specs.Proposed.{proposedOf};
+ghost use Rattle.proposals.specs.Views.{proposedOf};
 use collider::side::Side;
 use contact_types::contact_point::ContactPoint;
-use contact_types::feature_id::PackedFeatureId;
 use math::vec::Vec3;
-
-// What a shape proposes.
-pub struct ProposedPoint {
-    pub anchor1: Vec3,
-    pub anchor2: Vec3,
-    pub point: Vec3,
-    pub penetration: f32,
-    pub feature_id1: PackedFeatureId,
-    pub feature_id2: PackedFeatureId,
-}
+use proposals::proposal::ProposedPoint;
 
 // Relative to the body's centre of mass.
 fn moved_anchor(a: Side, anchor: Vec3) -> Vec3

@@ -39,9 +39,9 @@ pub record Updated : Type 0 where
   pub distance : Float
 
 -- the body that a collider names
-abbrev pub bodyOf : Inputs → Option ℕ → Option Body
-bodyOf i none = none
-bodyOf i (some n) = i .body n
+abbrev pub bodyOf : (ℕ → Option Body) → Option ℕ → Option Body
+bodyOf body none = none
+bodyOf body (some n) = body n
 
 -- rule 2: only the speculative distance and the mark change
 abbrev pub disjointFlags : PairFlags → PairFlags
@@ -152,12 +152,11 @@ statusBit f on touching change =
     (on && not (f .generateConstraints)) || ((touching && not (f .touching)) || ((not touching && f .touching) || nonZero change))
 
 -- a full update: rules 6 to 12
-unfoldable pub renewed : Inputs → Collider → Collider → Side → Side → Pair → Updated
-renewed i c1 c2 a b p =
-    let s = i .settings in
+unfoldable pub renewed : Settings → Bool → List ProposedManifold → Collider → Collider → Side → Side → Pair → Updated
+renewed s answer proposal c1 c2 a b p =
     let f = surfaceOf s c1 c2 a b (p .speculative) in
     let on = enabled c1 c2 a b in
-    let news = remaining (s .stepTime) a b f (p .flags .modifyContacts) (i .hook (p .names .id)) (i .proposal (p .names .id)) in
+    let news = remaining (s .stepTime) a b f (p .flags .modifyContacts) answer proposal in
     let touching = not (isEmpty news) in
     let change = changeOf (p .manifolds) news in
     let q : Pair = record {
@@ -172,21 +171,23 @@ renewed i c1 c2 a b p =
     record { pair = q; way = full; bit = statusBit (p .flags) on touching change; distance = f .margins ⊕ f .distance }
 
 -- rules 4 to 12, once the boxes overlap and the layers interact
-unfoldable pub overlapping : Inputs → Collider → Collider → Side → Side → Pair → Bool → Option Cache → Updated
-overlapping i c1 c2 a b p true (some k) = record { pair = recycledPair a b k p; way = recycled; bit = false; distance = zeroF }
-overlapping i c1 c2 a b p true none = renewed i c1 c2 a b p
-overlapping i c1 c2 a b p false k = renewed i c1 c2 a b p
+unfoldable pub overlapping : Settings → Bool → List ProposedManifold → Collider → Collider → Side → Side → Pair → Bool → Option Cache → Updated
+overlapping s answer proposal c1 c2 a b p true (some k) = record { pair = recycledPair a b k p; way = recycled; bit = false; distance = zeroF }
+overlapping s answer proposal c1 c2 a b p true none = renewed s answer proposal c1 c2 a b p
+overlapping s answer proposal c1 c2 a b p false k = renewed s answer proposal c1 c2 a b p
 
--- rule 1: either collider absent, and nothing changes
-unfoldable pub updatedBetween : Inputs → Pair → Option Collider → Option Collider → Updated
-updatedBetween i p none c2 = record { pair = p; way = skipped; bit = false; distance = zeroF }
-updatedBetween i p (some c1) none = record { pair = p; way = skipped; bit = false; distance = zeroF }
-updatedBetween i p (some c1) (some c2) =
-    let a = sideOf c1 (bodyOf i (c1 .body)) in
-    let b = sideOf c2 (bodyOf i (c2 .body)) in
+-- rules 1 to 12, from the settings, the bodies, the hook's answer, the proposal, the pair and its two colliders
+unfoldable pub updatedBetween : Settings → (ℕ → Option Body) → Bool → List ProposedManifold → Pair → Option Collider → Option Collider → Updated
+updatedBetween s body answer proposal p none c2 = record { pair = p; way = skipped; bit = false; distance = zeroF }
+updatedBetween s body answer proposal p (some c1) none = record { pair = p; way = skipped; bit = false; distance = zeroF }
+updatedBetween s body answer proposal p (some c1) (some c2) =
+    let a = sideOf c1 (bodyOf body (c1 .body)) in
+    let b = sideOf c2 (bodyOf body (c2 .body)) in
     cond (overlap c1 c2 (p .speculative) && interact c1 c2)
-    (overlapping i c1 c2 a b p (recycles (i .settings) (p .flags .touching) a b (p .cache)) (p .cache))
+    (overlapping s answer proposal c1 c2 a b p (recycles s (p .flags .touching) a b (p .cache)) (p .cache))
     (record { pair = disjoint p; way = apart; bit = true; distance = zeroF })
 
+-- what a step's inputs make of a pair
 unfoldable pub updated : Inputs → Pair → Updated
-updated i p = updatedBetween i p (i .collider (p .names .collider1)) (i .collider (p .names .collider2))
+updated i p =
+    updatedBetween (i .settings) (i .body) (i .hook (p .names .id)) (i .proposal (p .names .id)) p (i .collider (p .names .collider1)) (i .collider (p .names .collider2))

@@ -1,6 +1,6 @@
 -- A proposed point of the code as a plain value of `rules`. Definitions only.
 use Rattle.rules.specs.Inputs as rules
-use Rattle.narrow_phase.specs.declared.filtering.ProposedPoint.{ProposedPoint}
+use Rattle.proposals.specs.declared.proposal.ProposedPoint.{ProposedPoint}
 
 abbrev pub proposedOf : ProposedPoint → rules.ProposedPoint
 proposedOf p =

@@ -1,0 +1,1 @@
+// One contact's update over its words in the lent graph. From `update_contacts` of avian's narrow_phase/system_param.rs.

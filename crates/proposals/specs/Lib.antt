@@ -1,0 +1,5 @@
+pub mod Layout
+pub mod Recorded
+pub mod Views
+pub mod Range
+pub mod Loaded

@@ -1,0 +1,25 @@
+-- Refusal 6 of a contact's proposal, and refusal 2 of its hook's answer. Definitions only.
+-- Nothing is asked of what is not proposed: manifolds and points past their counts.
+use Prim.Native.Nat.{ℕ, _+_, _*_, _≤_, _<_}
+use mathlib.Core.Bool.{Bool, _&&_}
+use mathlib.Core.List.{List}
+use lib.Dec.{ltb, leb}
+use Rattle.rules.specs.Limits.{proposedPoints, pairManifolds}
+use Rattle.rules.specs.Numbers.{every}
+use Rattle.words.specs.Words.{wordAt}
+use Rattle.proposals.specs.Layout as place
+
+-- at most 6 manifolds, and at most 32 points in each that is counted
+unfoldable pub proposalFits : List ℕ → ℕ → Bool
+proposalFits xs at =
+    leb (wordAt xs (at + place.countPlace)) pairManifolds
+    && every (λ k. leb (wordAt xs (at + place.manifoldsPlace + k * place.manifoldSize)) proposedPoints) (wordAt xs (at + place.countPlace))
+
+-- the hook's answer is a mark
+unfoldable pub hookFits : List ℕ → ℕ → Bool
+hookFits xs at = ltb (wordAt xs at) 2
+
+-- what `proposalFits` says, count by count
+pub record Proposed (xs : List ℕ) (at : ℕ) : Type 0 where
+  pub manifolds : wordAt xs (at + place.countPlace) ≤ pairManifolds
+  pub points : (k : ℕ) → k < wordAt xs (at + place.countPlace) → wordAt xs (at + place.manifoldsPlace + k * place.manifoldSize) ≤ proposedPoints

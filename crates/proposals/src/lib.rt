@@ -1,0 +1,3 @@
+// What shapes propose for a contact, and its hook's answer, in a lent row of words.
+pub mod layout;
+pub mod proposal;
