@@ -106,7 +106,7 @@ pub fn store_manifold(g: &mut [u32], at: usize, m: ContactManifold)
 }
 
 // What stands in the places of a list that has fewer than six.
-fn no_manifold() -> ContactManifold {
+pub fn no_manifold() -> ContactManifold {
     let none = ContactPoint::new(Vec3::ZERO, Vec3::ZERO, Vec3::ZERO, 0.0);
     ContactManifold {
         points: [none; 4],

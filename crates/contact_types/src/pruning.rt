@@ -181,7 +181,7 @@ fn side_points(ps: [Projected; 32], count: usize, i: u32, j: u32, normal: Vec3) 
 
 // In the order 1, 3, 2, 4, which forms a convex polygon.
 fn gather(i: u32, below: u32, j: u32, above: u32) -> KeptPoints
-    ensures { λ r. ⌜ keptOf r ≡ i ∷ listedNumber below ++ j ∷ listedNumber above ⌝ }
+    ensures { λ r. ⌜ (keptOf r ≡ i ∷ listedNumber below ++ j ∷ listedNumber above) × (r .count ≤ 4) ⌝ }
 {
     if below == NONE {
         if above == NONE {
@@ -222,7 +222,7 @@ fn gather(i: u32, below: u32, j: u32, above: u32) -> KeptPoints
 // The points that stay, of two or more.
 pub fn prune_points(points: [PrunePoint; 32], count: usize, normal: Vec3) -> KeptPoints
     requires { ⌜ (1 < count) × (count ≤ 32) ⌝ }
-    ensures { λ r. ⌜ keptOf r ≡ kept normal count (pointBy points) ⌝ }
+    ensures { λ r. ⌜ (keptOf r ≡ kept normal count (pointBy points)) × (r .count ≤ 4) ⌝ }
 {
     let ps = project_all(points, count, normal);
     let i = first_point(ps, count);

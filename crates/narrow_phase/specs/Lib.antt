@@ -1,2 +1,9 @@
 pub mod Motions
 pub mod RecycleLaws
+pub mod Views
+pub mod Keeping
+pub mod ListLaws
+pub mod KeepingLaws
+pub mod StayingLaws
+pub mod ChangeLaws
+pub mod MatchLaws

@@ -28,7 +28,7 @@ returns-4 c =
     record {
       answer =
           rw (eq-eqb _ _ (at .before .before .if1 .left), le-ltb _ _ (at .before .if2 .left), le-ltb _ _ (at .if3 .left))
-          (ap keeps (c .prune-points .ensures ∙ kept-loaded _ _ _ _ (c .before .load-points .ensures)));
+          (ap keeps (c .prune-points .ensures .0 ∙ kept-loaded _ _ _ _ (c .before .load-points .ensures)));
     }
 
 pub prune-spec : {M : Type 1} → statement M

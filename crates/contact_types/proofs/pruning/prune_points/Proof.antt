@@ -20,8 +20,10 @@ side-points-requires c κs =
 returns : tie.Need-returns
 returns c =
     let at = c .before .before .before .before in
+    let e =
     kept-gathered _ _ _ _ (search needs) (search needs) (at .project-all .ensures) _ _ (c .before .before .before .first-point .ensures) (c .before .before .second-point .ensures)
-    (c .before .side-points .ensures) (c .gather .ensures)
+    (c .before .side-points .ensures) (c .gather .ensures .0) in
+    (e, c .gather .ensures .1)
 
 pub prune-points-spec : {M : Type 1} → statement M
 prune-points-spec = tie.close (tie.spec (search needs) (search needs) second-point-requires side-points-requires (search needs) returns)

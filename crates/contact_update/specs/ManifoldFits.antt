@@ -1,0 +1,320 @@
+-- The manifolds that an update makes, of a proposal or of the old ones: every float is one of 32 bits, and the lists are within the limits. Assumes nothing.
+use mathlib.Core.Path.{_≡_, refl, sym, subst}
+use Prim.Native.Nat.{ℕ, zero, suc, _+_, _*_, _≤_, _<_}
+use native.Mathlib.Nat.{not-suc-le-zero, le-of-suc-le-suc}
+use native.Mathlib.Omega.{arith}
+use mathlib.Core.Bool.{Bool, true, false, cond, not, _&&_}
+use mathlib.Core.List.{List, [], _∷_, map}
+use mathlib.Core.Option.{Option, none, some}
+use borrow.Author.Tests.{ltb-false}
+use lib.Dec.{ltb, leb}
+use lib.Ieee.{Float}
+use lib.ListN.{length, getD, length-append, length-map}
+use Rattle.math.specs.Constants.{tenth}
+use Rattle.math.specs.Floats.{_⊗_}
+use Rattle.math.specs.declared.vec.Vec3.{Vec3}
+use Rattle.rows.specs.Slots.{upto}
+use Rattle.rules.specs.Filtering.{movedAnchor, normalSpeedAt, movedPoint, stays, staying, noPoint, prunePoint, pruned, filtered, isEmpty, nonEmpty}
+use Rattle.rules.specs.Inputs.{Settings, ProposedPoint, ProposedManifold}
+use Rattle.rules.specs.Limits.{pairManifolds}
+use Rattle.rules.specs.Matching.{FeatureRule, byNumber, source, taking, matchedPoint, matchContacts, matchAll}
+use Rattle.rules.specs.Pruning.{PrunePoint, Projected, projected, point2, point3, point4, listed, keptBeside, keptFrom, kept}
+use Rattle.rules.specs.Records.{Point, Manifold, Cache}
+use Rattle.rules.specs.Recycling.{recycledPoint, recycledManifold}
+use Rattle.rules.specs.Sides.{Side}
+use Rattle.rules.specs.Surface.{Surface}
+use Rattle.rules.specs.Update.{hooked, matched, remaining}
+use Rattle.words.specs.Words.{wordAt}
+use Rattle.contact_records.specs.Fit.{FitFloat, FitVec3, FitPoint, FitPoints, FitManifold, FitManifolds}
+use Rattle.contact_records.specs.Fits.{vec3-fits}
+use Rattle.contact_records.specs.Lists.{getD-map-upto, length-map-upto}
+use Rattle.proposals.specs.Layout as proposal-place
+use Rattle.proposals.specs.Range.{Proposed}
+use Rattle.proposals.specs.Recorded.{proposedPointAt, proposedPointsAt, proposedManifoldAt, proposalAt}
+use Rattle.contact_update.specs.FitLeaves.{bits-fit, sum-fits, difference-fits, zero3-fits, dot-fits, vector-sum-fits}
+
+-- ---- lists, by index. Past the end is whatever the caller says
+abbrev pub Each : {A : Type 0} → (A → Type 0) → List A → Type 0
+Each {A} P xs = (k : ℕ) (past : A) → k < length xs → P (getD xs k past)
+
+module _ {A : Type 0} (P : A → Type 0) where
+  each-none : Each P []
+  each-none k past h = absurd (not-suc-le-zero h)
+
+  each-and : (x : A) (xs : List A) → P x → Each P xs → Each P (x ∷ xs)
+  each-and x xs p h zero past l = p
+  each-and x xs p h (suc k) past l = h k past (le-of-suc-le-suc l)
+
+  each-first : (x : A) (xs : List A) → Each P (x ∷ xs) → P x
+  each-first x xs h = h 0 x (omega arith)
+
+  each-rest : (x : A) (xs : List A) → Each P (x ∷ xs) → Each P xs
+  each-rest x xs h k past l = h (suc k) past (omega arith)
+
+  each-cond : (t : Bool) (xs ys : List A) → Each P xs → Each P ys → Each P (cond t xs ys)
+  each-cond true xs ys h g = h
+  each-cond false xs ys h g = g
+
+  -- what stands past the end is one of them too
+  each-at : (xs : List A) (k : ℕ) (d : A) → Each P xs → P d → P (getD xs k d)
+  each-at [] k d h p = p
+  each-at (x ∷ xs) zero d h p = each-first x xs h
+  each-at (x ∷ xs) (suc k) d h p = each-at xs k d (each-rest x xs h) p
+
+  each-upto : (f : ℕ → A) (n : ℕ) → ((k : ℕ) → k < n → P (f k)) → Each P (map f (upto n))
+  each-upto f n h k past l =
+      let b : k < n = rw (length-map-upto f n) at l in
+      subst P (sym (getD-map-upto f n k past b)) (h k b)
+
+module _ {A B : Type 0} (P : A → Type 0) (Q : B → Type 0) where
+  each-map : (f : A → B) → ((a : A) → P a → Q (f a)) → (xs : List A) → Each P xs → Each Q (map f xs)
+  each-map f g [] h = each-none Q
+  each-map f g (x ∷ xs) h = each-and Q (f x) (map f xs) (g x (each-first P x xs h)) (each-map f g xs (each-rest P x xs h))
+
+-- ---- a change of each
+points-mapped : (f : Point → Point) → ((p : Point) → FitPoint p → FitPoint (f p)) → (ps : List Point) → FitPoints ps → FitPoints (map f ps)
+points-mapped f g ps h = record { few = rw (length-map ps f) (h .few); each = each-map FitPoint FitPoint f g ps (h .each) }
+
+pub manifolds-mapped : (f : Manifold → Manifold) → ((m : Manifold) → FitManifold m → FitManifold (f m)) → (ms : List Manifold) → FitManifolds ms → FitManifolds (map f ms)
+manifolds-mapped f g ms h = record { few = rw (length-map ms f) (h .few); each = each-map FitManifold FitManifold f g ms (h .each) }
+
+-- ---- what is proposed
+-- a proposed point's place is stored as it is, and a manifold's normal
+abbrev pub PointFits : ProposedPoint → Type 0
+PointFits p = FitVec3 (p .point)
+
+pub record FitProposed (m : ProposedManifold) : Type 0 where
+  pub normal : FitVec3 (m .normal)
+  pub points : Each PointFits (m .points)
+
+proposed-read : (xs : List ℕ) (at : ℕ) → FitProposed (proposedManifoldAt xs at)
+unfolding proposedManifoldAt proposedPointsAt proposedPointAt
+proposed-read xs at =
+    let from : ℕ → ℕ = λ k. at + proposal-place.pointsPlace + k * proposal-place.pointSize in
+    record {
+      normal = vec3-fits xs (at + proposal-place.normalPlace);
+      points = each-upto PointFits (λ k. proposedPointAt xs (from k)) (wordAt xs at) (λ k l. vec3-fits xs (from k + 6));
+    }
+
+pub record FitProposal (ms : List ProposedManifold) : Type 0 where
+  pub few : length ms ≤ pairManifolds
+  pub each : Each FitProposed ms
+
+pub proposal-read : (xs : List ℕ) → Proposed xs 0 → FitProposal (proposalAt xs 0)
+unfolding proposalAt
+proposal-read xs h =
+    let from : ℕ → ℕ = λ k. proposal-place.manifoldsPlace + k * proposal-place.manifoldSize in
+    let f : ℕ → ProposedManifold = λ k. proposedManifoldAt xs (from k) in
+    let n = wordAt xs proposal-place.countPlace in
+    record { few = rw (length-map-upto f n) (h .manifolds); each = each-upto FitProposed f n (λ k l. proposed-read xs (from k)) }
+
+-- ---- rule 9
+-- what a surface gives to a manifold
+pub record FitSurface (f : Surface) : Type 0 where
+  pub friction : FitFloat (f .friction)
+  pub restitution : FitFloat (f .restitution)
+
+moved-fits : (a b : Side) (margins : Float) (normal : Vec3) (p : ProposedPoint) → PointFits p → FitPoint (movedPoint a b margins normal p)
+unfolding movedPoint movedAnchor normalSpeedAt
+moved-fits a b margins normal p h =
+    record {
+      anchor1 = vector-sum-fits (p .anchor1) _;
+      anchor2 = vector-sum-fits (p .anchor2) _;
+      point = h;
+      penetration = sum-fits (p .penetration) margins;
+      basePenetration = sum-fits (p .penetration) margins;
+      normalImpulse = bits-fit 0;
+      normalSpeed = dot-fits _ normal;
+      warmStartNormal = bits-fit 0;
+      warmStartTangent1 = bits-fit 0;
+      warmStartTangent2 = bits-fit 0;
+    }
+
+staying-fits : (stepTime distance : Float) (ps : List Point) → Each FitPoint ps → Each FitPoint (staying stepTime distance ps)
+unfolding staying
+staying-fits stepTime distance [] h = each-none FitPoint
+staying-fits stepTime distance (p ∷ ps) h =
+    let r = staying-fits stepTime distance ps (each-rest FitPoint p ps h) in
+    each-cond FitPoint (stays stepTime distance p) (p ∷ staying stepTime distance ps) (staying stepTime distance ps)
+    (each-and FitPoint p (staying stepTime distance ps) (each-first FitPoint p ps h) r) r
+
+none-fits : FitPoint noPoint
+none-fits =
+    record {
+      anchor1 = zero3-fits;
+      anchor2 = zero3-fits;
+      point = zero3-fits;
+      penetration = bits-fit 0;
+      basePenetration = bits-fit 0;
+      normalImpulse = bits-fit 0;
+      normalSpeed = bits-fit 0;
+      warmStartNormal = bits-fit 0;
+      warmStartTangent1 = bits-fit 0;
+      warmStartTangent2 = bits-fit 0;
+    }
+
+-- at most 4 are kept
+listed-few : (o : Option ℕ) → length (listed o) ≤ 1
+listed-few none = omega arith
+listed-few (some i) = omega arith
+
+beside-few : (normal : Vec3) (count : ℕ) (p : ℕ → Projected) (i : ℕ) (o : Option ℕ) → length (keptBeside normal count p i o) ≤ 4
+unfolding keptBeside
+beside-few normal count p i none = omega arith
+beside-few normal count p i (some j) =
+    let a = listed (point3 normal count p i j) in
+    let b = listed (point4 normal count p i j) in
+    omega (arith, length-append a (j ∷ b), listed-few (point3 normal count p i j), listed-few (point4 normal count p i j))
+
+from-few : (normal : Vec3) (count : ℕ) (p : ℕ → Projected) (o : Option ℕ) → length (keptFrom normal count p o) ≤ 4
+unfolding keptFrom
+from-few normal count p none = omega arith
+from-few normal count p (some i) = beside-few normal count p i (point2 count p i)
+
+pub kept-few : (normal : Vec3) (count : ℕ) (point : ℕ → PrunePoint) → length (kept normal count point) ≤ 4
+unfolding kept
+kept-few normal count point = from-few normal count (λ k. projected normal (point k)) _
+
+pruned-fits : (normal : Vec3) (ps : List Point) → Each FitPoint ps → FitPoints (pruned normal ps)
+unfolding pruned
+pruned-fits normal ps h = go (ltb 4 (length ps)) refl
+  where
+    is : List ℕ
+    is = kept normal (length ps) (λ k. prunePoint (getD ps k noPoint))
+
+    go : (t : Bool) → ltb 4 (length ps) ≡ t → FitPoints (cond t (map (λ i. getD ps i noPoint) (kept normal (length ps) (λ k. prunePoint (getD ps k noPoint)))) ps)
+    go true e =
+        record {
+          few = rw (length-map is (λ i. getD ps i noPoint)) (kept-few normal (length ps) (λ k. prunePoint (getD ps k noPoint)));
+          each = each-map (λ i. Unit {0}) FitPoint (λ i. getD ps i noPoint) (λ i u. each-at FitPoint ps i noPoint h none-fits) is (λ k d l. tt);
+        }
+    go false e = record { few = ltb-false 4 (length ps) e; each = h }
+
+filtered-fits : (stepTime : Float) (a b : Side) (f : Surface) (m : ProposedManifold) → FitSurface f → FitProposed m → FitManifold (filtered stepTime a b f m)
+unfolding filtered
+filtered-fits stepTime a b f m hf hm =
+    record {
+      points =
+          pruned-fits (m .normal) _
+          (staying-fits stepTime (f .distance) _
+          (each-map PointFits FitPoint (movedPoint a b (f .margins) (m .normal)) (moved-fits a b (f .margins) (m .normal)) (m .points) (hm .points)));
+      normal = hm .normal;
+      friction = hf .friction;
+      restitution = hf .restitution;
+      tangentVelocity = zero3-fits;
+    }
+
+non-empty-few : (ms : List Manifold) → length (nonEmpty ms) ≤ length ms
+unfolding nonEmpty
+non-empty-few [] = omega arith
+non-empty-few (m ∷ ms) = go (isEmpty (m .points)) (non-empty-few ms)
+  where
+    go : (t : Bool) → length (nonEmpty ms) ≤ length ms → length (cond t (nonEmpty ms) (m ∷ nonEmpty ms)) ≤ suc (length ms)
+    go true h = omega arith
+    go false h = omega arith
+
+non-empty-each : (ms : List Manifold) → Each FitManifold ms → Each FitManifold (nonEmpty ms)
+unfolding nonEmpty
+non-empty-each [] h = h
+non-empty-each (m ∷ ms) h =
+    let r = non-empty-each ms (each-rest FitManifold m ms h) in
+    each-cond FitManifold (isEmpty (m .points)) (nonEmpty ms) (m ∷ nonEmpty ms) r (each-and FitManifold m (nonEmpty ms) (each-first FitManifold m ms h) r)
+
+-- ---- rule 10
+hooked-fits : (modify answer : Bool) (ms : List Manifold) → FitManifolds ms → FitManifolds (hooked modify answer ms)
+unfolding hooked
+hooked-fits modify answer ms h = go (modify && not answer)
+  where
+    go : (t : Bool) → FitManifolds (cond t [] ms)
+    go true = record { few = omega arith; each = each-none FitManifold }
+    go false = h
+
+pub remaining-fits : (stepTime : Float) (a b : Side) (f : Surface) (modify answer : Bool) (proposal : List ProposedManifold) → FitSurface f → FitProposal proposal
+    → FitManifolds (remaining stepTime a b f modify answer proposal)
+unfolding remaining
+remaining-fits stepTime a b f modify answer proposal hf hp =
+    let ms : List Manifold = map (filtered stepTime a b f) proposal in
+    let n : length ms ≡ length proposal = length-map proposal (filtered stepTime a b f) in
+    hooked-fits modify answer (nonEmpty ms)
+    (record {
+      few = omega (arith, non-empty-few ms, hp .few);
+      each = non-empty-each ms (each-map FitProposed FitManifold (filtered stepTime a b f) (λ m h. filtered-fits stepTime a b f m hf h) proposal (hp .each));
+    })
+
+-- ---- rule 11
+-- an old point's impulses; past the old ones' end stands the new point itself
+taking-fits : (olds : List Point) (new : Point) (o : Option ℕ) → Each FitPoint olds → FitPoint new → FitPoint (taking olds new o)
+taking-fits olds new none h n = n
+taking-fits olds new (some k) h n =
+    let f = each-at FitPoint olds k new h n in
+    record {
+      anchor1 = n .anchor1;
+      anchor2 = n .anchor2;
+      point = n .point;
+      penetration = n .penetration;
+      basePenetration = n .basePenetration;
+      normalImpulse = n .normalImpulse;
+      normalSpeed = n .normalSpeed;
+      warmStartNormal = f .warmStartNormal;
+      warmStartTangent1 = f .warmStartTangent1;
+      warmStartTangent2 = f .warmStartTangent2;
+    }
+
+module _ (same : FeatureRule) where
+  point-matched : (square : Float) (olds : List Point) (new : Point) → Each FitPoint olds → FitPoint new → FitPoint (matchedPoint same square olds new)
+  unfolding matchedPoint
+  point-matched square olds new h n = taking-fits olds new (source same square olds new) h n
+
+  contacts-matched : (threshold : Float) (olds : List Point) (m : Manifold) → Each FitPoint olds → FitManifold m → FitManifold (matchContacts same threshold olds m)
+  unfolding matchContacts
+  contacts-matched threshold olds m h n =
+      record {
+        points = points-mapped (matchedPoint same (threshold ⊗ threshold) olds) (λ p. point-matched (threshold ⊗ threshold) olds p h) (m .points) (n .points);
+        normal = n .normal;
+        friction = n .friction;
+        restitution = n .restitution;
+        tangentVelocity = n .tangentVelocity;
+      }
+
+  all-matched : (threshold : Float) (olds : List Manifold) (m : Manifold) → Each FitManifold olds → FitManifold m → FitManifold (matchAll same threshold olds m)
+  unfolding matchAll
+  all-matched threshold [] m h n = n
+  all-matched threshold (o ∷ os) m h n =
+      all-matched threshold os (matchContacts same threshold (o .points) m) (each-rest FitManifold o os h)
+      (contacts-matched threshold (o .points) m (each-first FitManifold o os h .points .each) n)
+
+pub matched-fits : (s : Settings) (olds news : List Manifold) → FitManifolds olds → FitManifolds news → FitManifolds (matched s olds news)
+unfolding matched
+matched-fits s olds news h n = go (s .matchContacts && leb (length news) 4)
+  where
+    go : (t : Bool) → FitManifolds (cond t (map (matchAll byNumber (tenth ⊗ s .lengthUnit) olds) news) news)
+    go true = manifolds-mapped (matchAll byNumber (tenth ⊗ s .lengthUnit) olds) (λ m. all-matched byNumber (tenth ⊗ s .lengthUnit) olds m (h .each)) news n
+    go false = n
+
+-- ---- rule 5
+recycled-point-fits : (a b : Side) (k : Cache) (normal : Vec3) (p : Point) → FitPoint p → FitPoint (recycledPoint a b k normal p)
+unfolding recycledPoint
+recycled-point-fits a b k normal p h =
+    record {
+      anchor1 = h .anchor1;
+      anchor2 = h .anchor2;
+      point = h .point;
+      penetration = difference-fits (p .basePenetration) _;
+      basePenetration = h .basePenetration;
+      normalImpulse = h .normalImpulse;
+      normalSpeed = h .normalSpeed;
+      warmStartNormal = h .warmStartNormal;
+      warmStartTangent1 = h .warmStartTangent1;
+      warmStartTangent2 = h .warmStartTangent2;
+    }
+
+pub recycled-manifold-fits : (a b : Side) (k : Cache) (m : Manifold) → FitManifold m → FitManifold (recycledManifold a b k m)
+unfolding recycledManifold
+recycled-manifold-fits a b k m h =
+    record {
+      points = points-mapped (recycledPoint a b k (m .normal)) (recycled-point-fits a b k (m .normal)) (m .points) (h .points);
+      normal = h .normal;
+      friction = h .friction;
+      restitution = h .restitution;
+      tangentVelocity = h .tangentVelocity;
+    }

@@ -1,0 +1,33 @@
+-- The points that stay, by their numbers: what pruning looks at, and those that it keeps. Definitions only.
+use Prim.Native.Nat.{ℕ, _<_}
+use mathlib.Core.Path.{_≡_}
+use mathlib.Core.List.{List, [], _∷_}
+use lib.ListN.{getD}
+use Rattle.rules.specs.Filtering.{prunePoint}
+use Rattle.contact_types.specs.Pruned.{pointBy}
+use Rattle.contact_types.specs.Views.{pointOf}
+use Rattle.contact_types.specs.declared.contact_point.ContactPoint.{ContactPoint}
+use Rattle.contact_types.specs.declared.pruning.KeptPoints.{KeptPoints}
+use Rattle.contact_types.specs.declared.pruning.PrunePoint.{PrunePoint}
+use Rattle.narrow_phase.specs.declared.manifold.ManifoldPoints.{ManifoldPoints}
+
+-- The promise of `prune_view`. Past the array's end is whatever the caller says
+pub record Viewed (points : List ContactPoint) (view : List PrunePoint) (count : ℕ) : Type 0 where
+  pub each : (k : ℕ) (past : ContactPoint) → k < count → pointBy view k ≡ prunePoint (pointOf (getD points k past))
+
+-- The promise of `pick`.
+pub record Picked (points : List ContactPoint) (i : ℕ) (r : ContactPoint) : Type 0 where
+  pub there : (past : ContactPoint) → i < 32 → r ≡ getD points i past
+
+-- The promise of `pick_kept`: each of the four places has the point of its number.
+pub record PickedKept (from : List ContactPoint) (k : KeptPoints) (r : ManifoldPoints) : Type 0 where
+  pub first : ContactPoint
+  pub second : ContactPoint
+  pub third : ContactPoint
+  pub fourth : ContactPoint
+  pub four : r .points ≡ first ∷ second ∷ third ∷ fourth ∷ []
+  pub count : r .count ≡ k .count
+  pub at1 : Picked from (k .first) first
+  pub at2 : Picked from (k .second) second
+  pub at3 : Picked from (k .third) third
+  pub at4 : Picked from (k .fourth) fourth

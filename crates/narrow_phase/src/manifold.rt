@@ -1,0 +1,262 @@
+// A pair's new manifolds, from those proposed: points moved, filtered and pruned, empty manifolds left out. Rules 9 and 10.
+ghost use mathlib.Core.Path.{_≡_};
+ghost use mathlib.Core.Bool.{cond};
+ghost use mathlib.Core.List.{map};
+ghost use Prim.Native.Nat.{_+_, _≤_};
+ghost use lib.ListN.{length};
+ghost use Rattle.rules.specs.Filtering.{movedPoint, staying, prunePoint, pruned, filtered, nonEmpty};
+ghost use Rattle.rules.specs.Update.{remaining};
+ghost use Rattle.words.specs.Words.{wordAt};
+ghost use Rattle.collider.specs.Views.{plainSide};
+ghost use Rattle.contact_types.specs.Pruned.{prunePointOf};
+ghost use Rattle.contact_types.specs.Views.{pointOf};
+ghost use Rattle.proposals.specs.Layout.{manifoldSize, proposalSize};
+ghost use Rattle.proposals.specs.Range.{Proposed};
+ghost use Rattle.proposals.specs.Recorded.{proposedPointAt, proposedPointsAt, proposedManifoldAt, proposalAt, hookAt};
+ghost use Rattle.narrow_phase.specs.Views.{plainSurface, firstPoints, Stayed, PrunedTo, ManifoldIs, ManifoldsAre};
+ghost use Rattle.narrow_phase.specs.Keeping.{Viewed, Picked, PickedKept};
+use crate::filtering::moved_point;
+use crate::filtering::stays;
+use crate::surface::Surface;
+use collider::side::Side;
+use contact_records::manifold::no_manifold;
+use contact_types::contact_manifold::ContactManifold;
+use contact_types::contact_manifold::ContactManifolds;
+use contact_types::contact_point::ContactPoint;
+use contact_types::pruning::KeptPoints;
+use contact_types::pruning::PrunePoint;
+use contact_types::pruning::prune_points;
+use math::vec::Vec3;
+use proposals::layout::COUNT_PLACE;
+use proposals::layout::HOOK_PLACE;
+use proposals::layout::MANIFOLD_SIZE;
+use proposals::layout::MANIFOLDS_PLACE;
+use proposals::layout::NORMAL_PLACE;
+use proposals::layout::POINT_SIZE;
+use proposals::layout::POINTS_PLACE;
+use proposals::proposal::load_hook;
+use proposals::proposal::load_proposed_point;
+use words::row::load_word;
+use words::vec::load_vec3;
+
+// The points of a proposed manifold that stay: the first `count`.
+pub struct StayingPoints {
+    pub points: [ContactPoint; 32],
+    pub count: u32,
+}
+
+// The points of a new manifold: the first `count`.
+pub struct ManifoldPoints {
+    pub points: [ContactPoint; 4],
+    pub count: u32,
+}
+
+// What counts is 1. The next one takes the place of one that does not.
+fn one_if(counts: bool) -> usize
+    ensures { λ r. ⌜ r ≡ cond counts 1 0 ⌝ }
+{
+    if counts { 1 } else { 0 }
+}
+
+// A proposed point, moved.
+fn moved_point_at(
+    words: &[u32],
+    at: usize,
+    a: Side,
+    b: Side,
+    margins: f32,
+    normal: Vec3,
+) -> ContactPoint
+    requires { ⌜ at + 12 ≤ length (now words) ⌝ }
+    ensures { λ r. ⌜ pointOf r ≡ movedPoint (plainSide a) (plainSide b) margins normal (proposedPointAt (now (words .entry)) at) ⌝ }
+{
+    let p = load_proposed_point(words, at);
+    moved_point(a, b, margins, normal, p)
+}
+
+// The n points from a place on, each read, moved and held against the contact distance.
+fn staying_points(
+    words: &[u32],
+    at: usize,
+    n: usize,
+    normal: Vec3,
+    step_time: f32,
+    a: Side,
+    b: Side,
+    f: Surface,
+) -> StayingPoints
+    requires { ⌜ (n ≤ 32) × (at + 384 ≤ length (now words)) ⌝ }
+    ensures { λ r. ⌜ Stayed (staying «step_time» (f .distance) (map (movedPoint (plainSide a) (plainSide b) (f .margins) normal) (proposedPointsAt (now (words .entry)) at n))) r ⌝ }
+{
+    let margins = f.margins;
+    let distance = f.distance;
+    let none = ContactPoint::new(Vec3::ZERO, Vec3::ZERO, Vec3::ZERO, 0.0);
+    let mut points = [none; 32];
+    let mut count: usize = 0;
+    let mut k = 0;
+    while k < n {
+        let p = moved_point_at(words, at + k * POINT_SIZE, a, b, margins, normal);
+        points[count] = p;
+        count += one_if(stays(step_time, distance, p));
+        k += 1;
+    }
+    StayingPoints {
+        points,
+        count: count as u32,
+    }
+}
+
+// What pruning looks at in a point.
+fn prune_point(p: ContactPoint) -> PrunePoint
+    ensures { λ r. ⌜ prunePointOf r ≡ prunePoint (pointOf p) ⌝ }
+{
+    let anchor1 = p.anchor1;
+    PrunePoint {
+        anchor1,
+        penetration: p.penetration,
+    }
+}
+
+fn prune_view(points: [ContactPoint; 32], count: usize) -> [PrunePoint; 32]
+    requires { ⌜ count ≤ 32 ⌝ }
+    ensures { λ r. ⌜ Viewed points r count ⌝ }
+{
+    let none = PrunePoint {
+        anchor1: Vec3::ZERO,
+        penetration: 0.0,
+    };
+    let mut view = [none; 32];
+    let mut k = 0;
+    while k < count {
+        let p = points[k];
+        let seen = prune_point(p);
+        view[k] = seen;
+        k += 1;
+    }
+    view
+}
+
+// Point i. No point has a number past the array's.
+fn pick(points: [ContactPoint; 32], i: u32) -> ContactPoint
+    ensures { λ r. ⌜ Picked points i r ⌝ }
+{
+    if i < 32 {
+        return points[i as usize];
+    }
+    points[0]
+}
+
+// The points that pruning keeps, in its order.
+fn pick_kept(points: [ContactPoint; 32], kept: KeptPoints) -> ManifoldPoints
+    ensures { λ r. ⌜ PickedKept points kept r ⌝ }
+{
+    let first = pick(points, kept.first);
+    let second = pick(points, kept.second);
+    let third = pick(points, kept.third);
+    let fourth = pick(points, kept.fourth);
+    ManifoldPoints {
+        points: [first, second, third, fourth],
+        count: kept.count,
+    }
+}
+
+// Four points or fewer stay as they are.
+fn first_four(s: StayingPoints) -> ManifoldPoints
+    requires { ⌜ s .count ≤ 4 ⌝ }
+    ensures { λ r. ⌜ PrunedTo (firstPoints (s .count) (s .points)) r ⌝ }
+{
+    let points = s.points;
+    let first = points[0];
+    let second = points[1];
+    let third = points[2];
+    let fourth = points[3];
+    ManifoldPoints {
+        points: [first, second, third, fourth],
+        count: s.count,
+    }
+}
+
+// More than four are pruned.
+fn pruned_points(s: StayingPoints, normal: Vec3) -> ManifoldPoints
+    requires { ⌜ s .count ≤ 32 ⌝ }
+    ensures { λ r. ⌜ PrunedTo (pruned normal (firstPoints (s .count) (s .points))) r ⌝ }
+{
+    if s.count <= 4 {
+        return first_four(s);
+    }
+    let points = s.points;
+    let count = s.count as usize;
+    let view = prune_view(points, count);
+    let kept = prune_points(view, count, normal);
+    pick_kept(points, kept)
+}
+
+// The proposed manifold at a place, filtered and pruned.
+fn filtered_manifold(
+    words: &[u32],
+    at: usize,
+    step_time: f32,
+    a: Side,
+    b: Side,
+    f: Surface,
+) -> ContactManifold
+    requires { ⌜ (at + manifoldSize ≤ length (now words)) × (wordAt (now words) at ≤ 32) ⌝ }
+    ensures { λ r. ⌜ ManifoldIs (filtered «step_time» (plainSide a) (plainSide b) (plainSurface f) (proposedManifoldAt (now (words .entry)) at)) r ⌝ }
+{
+    let n = load_word(words, at) as usize;
+    let normal = load_vec3(words, at + NORMAL_PLACE);
+    let staying = staying_points(words, at + POINTS_PLACE, n, normal, step_time, a, b, f);
+    let few = pruned_points(staying, normal);
+    let points = few.points;
+    ContactManifold {
+        points,
+        count: few.count,
+        normal,
+        friction: f.friction,
+        restitution: f.restitution,
+        tangent_velocity: Vec3::ZERO,
+    }
+}
+
+// Those that have points left, in the order proposed.
+fn new_manifolds(proposal: &[u32], step_time: f32, a: Side, b: Side, f: Surface) -> ContactManifolds
+    requires { ⌜ (length (now proposal) ≡ proposalSize) × Proposed (now proposal) 0 ⌝ }
+    ensures { λ r. ⌜ ManifoldsAre (nonEmpty (map (filtered «step_time» (plainSide a) (plainSide b) (plainSurface f)) (proposalAt (now (proposal .entry)) 0))) r ⌝ }
+{
+    let n = load_word(proposal, COUNT_PLACE) as usize;
+    let none = no_manifold();
+    let mut list = [none; 6];
+    let mut count: usize = 0;
+    let mut k = 0;
+    while k < n {
+        let at = MANIFOLDS_PLACE + k * MANIFOLD_SIZE;
+        let m = filtered_manifold(proposal, at, step_time, a, b, f);
+        list[count] = m;
+        count += one_if(m.count != 0);
+        k += 1;
+    }
+    ContactManifolds {
+        list,
+        count: count as u32,
+    }
+}
+
+// A marked pair whose hook says no loses all of them.
+pub fn remaining_manifolds(
+    proposal: &[u32],
+    step_time: f32,
+    a: Side,
+    b: Side,
+    f: Surface,
+    modify: bool,
+) -> ContactManifolds
+    requires { ⌜ (length (now proposal) ≡ proposalSize) × Proposed (now proposal) 0 ⌝ }
+    ensures { λ r. ⌜ ManifoldsAre (remaining «step_time» (plainSide a) (plainSide b) (plainSurface f) modify (hookAt (now (proposal .entry)) 0) (proposalAt (now (proposal .entry)) 0)) r ⌝ }
+{
+    let mut ms = new_manifolds(proposal, step_time, a, b, f);
+    let answer = load_hook(proposal, HOOK_PLACE);
+    if modify && !answer {
+        ms.count = 0;
+    }
+    ms
+}
