@@ -55,7 +55,8 @@ pub fn load_flags(g: &[u32], at: usize) -> ContactPairFlags
     flags_of(w)
 }
 
-fn mark_word(b: bool) -> u32
+// A mark's word.
+pub fn mark_word(b: bool) -> u32
     ensures { λ r. ⌜ r ≡ markWord b ⌝ }
 {
     if b { 1 } else { 0 }

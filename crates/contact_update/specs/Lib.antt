@@ -5,3 +5,12 @@ pub mod UpdateFits
 pub mod RecordLaws
 pub mod Plain
 pub mod GraphLaws
+pub mod Updates
+pub mod Made
+pub mod PutLaws
+pub mod StoreLaws
+pub mod PointLaws
+pub mod ManifoldTurns
+pub mod Branches
+pub mod RenewLaws
+pub mod RecordReads

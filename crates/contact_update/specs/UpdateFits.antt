@@ -30,6 +30,7 @@ use Rattle.contact_records.specs.Recorded.{pairAt}
 use Rattle.proposals.specs.Range.{Proposed}
 use Rattle.proposals.specs.Recorded.{proposalAt, hookAt}
 use Rattle.contact_update.specs.After.{recordUpdated}
+use Rattle.narrow_phase.specs.ChangeLaws.{change-fit}
 use Rattle.contact_update.specs.FitLeaves.{bits-fit, read-fits, product-fits, cond-fit, maximum-fits, minimum-fits, root-fits, identity-fits, relative-position-fits, relative-rotation-fits}
 use Rattle.contact_update.specs.ManifoldFits.{FitSurface, FitProposal, proposal-read, remaining-fits, matched-fits, manifolds-mapped, recycled-manifold-fits}
 
@@ -154,16 +155,7 @@ cache-of-fits a b ha hb = record { each = λ c e. subst FitCache (let q : cacheO
           relativeRotation = relative-rotation-fits (a .pose) (b .pose);
         }
 
--- ---- rule 12
--- both counts are at most 6
-change-fit : (n m : ℕ) → n ≤ 6 → m ≤ 6 → SFits w32 (pos n -ℤ pos m)
-change-fit n zero a b = record { sfits = let l : n + 0 < 2147483648 = omega arith in l }
-change-fit n (suc m) a b = go (ltb n (suc m))
-  where
-    go : (t : Bool) → SFits w32 (cond t (negsuc (suc m - suc n)) (pos (n - suc m)))
-    go true = record { sfits = let l : suc m - suc n < 2147483648 = omega arith in l }
-    go false = record { sfits = let l : n - suc m < 2147483648 = omega arith in l }
-
+-- ---- rule 12: both counts are at most 6
 change-fits : (olds news : List Manifold) → FitManifolds olds → FitManifolds news → SFits w32 (changeOf olds news)
 unfolding changeOf
 change-fits olds news h n = change-fit (length news) (length olds) (n .few) (h .few)

@@ -72,20 +72,23 @@ stored m f = record { count = f .manifolds; points = f .points .each }
 
 -- ---- rule 11
 module _ (s : Settings) (olds news : ContactManifolds) (few : FewManifolds news) (room : news .count ≤ length (news .list)) where
-  news-count : leb (length (manifoldsOf news)) 4 ≡ leb (news .count) 4
+  news-length : length (manifoldsOf news) ≡ news .count
   unfolding manifoldsOf
-  news-count = ap (λ (n : ℕ). leb n 4) (length-view manifoldOf (news .count) (news .list) room)
+  news-length = length-view manifoldOf (news .count) (news .list) room
+
+  news-count : leb (length (manifoldsOf news)) 4 ≡ leb (news .count) 4
+  news-count = ap (λ (n : ℕ). leb n 4) news-length
 
   pub match-off : not (s .matchContacts) ≡ true → ManifoldsAre (matched s (manifoldsOf olds) (manifoldsOf news)) news
   unfolding matched
-  match-off e = let o = not-true (s .matchContacts) e in record { manifolds = sym (rw o); few = few }
+  match-off e = let o = not-true (s .matchContacts) e in record { manifolds = sym (rw o); few = few; count = rw o news-length }
 
   pub match-many : not (s .matchContacts) ≡ false → 4 < news .count → ManifoldsAre (matched s (manifoldsOf olds) (manifoldsOf news)) news
   unfolding matched
   match-many e l =
       let o = not-false (s .matchContacts) e in
       let m = news-count ∙ lt-leb (news .count) 4 l in
-      record { manifolds = sym (rw (o, m)); few = few }
+      record { manifolds = sym (rw (o, m)); few = few; count = rw (o, m) news-length }
 
   pub match-done : not (s .matchContacts) ≡ false → news .count ≤ 4 → (r : ContactManifolds) → MatchedManifolds (tenth ⊗ s .lengthUnit) olds news r
       → ManifoldsAre (matched s (manifoldsOf olds) (manifoldsOf news)) r
@@ -93,4 +96,8 @@ module _ (s : Settings) (olds news : ContactManifolds) (few : FewManifolds news)
   match-done e l r m =
       let o = not-false (s .matchContacts) e in
       let t = news-count ∙ le-leb (news .count) 4 l in
-      record { manifolds = m .manifolds ∙ sym (rw (o, t)); few = m .few }
+      record {
+        manifolds = m .manifolds ∙ sym (rw (o, t));
+        few = m .few;
+        count = rw (o, t) (simp length-map news-length ∙ sym (m .count));
+      }

@@ -31,7 +31,7 @@ use Rattle.contact_types.specs.declared.contact_manifold.ContactManifolds.{Cont
 use Rattle.contact_types.specs.declared.contact_point.ContactPoint.{ContactPoint}
 use Rattle.proposals.specs.Layout as place
 use Rattle.proposals.specs.Recorded.{proposedPointAt, proposedPointsAt, proposedManifoldAt, proposalAt}
-use Rattle.narrow_phase.specs.ListLaws.{view-step}
+use Rattle.narrow_phase.specs.ListLaws.{view-step, length-view}
 use Rattle.narrow_phase.specs.Views.{plainSurface, firstPoints, Stayed, PrunedTo, ManifoldIs, ManifoldsAre}
 use Rattle.narrow_phase.specs.declared.manifold.ManifoldPoints.{ManifoldPoints}
 use Rattle.narrow_phase.specs.declared.manifold.StayingPoints.{StayingPoints}
@@ -143,15 +143,13 @@ manifold-filtered w at t a b f {n} {normal} s r e v p q =
       empty = ap isEmpty (sym made) ∙ empty-first (r .count) (r .points) (q .four);
     }
 
-pub manifolds-kept : (w : List ℕ) (f : ProposedManifold → Manifold) (n : ℕ) {c : ℕ} (list : List ContactManifold) → n ≡ wordAt w place.countPlace → c ≤ 6 → FewPoints list c
+pub manifolds-kept : (w : List ℕ) (f : ProposedManifold → Manifold) (n : ℕ) {c : ℕ} (list : List ContactManifold) → n ≡ wordAt w place.countPlace → length list ≡ 6 → c ≤ 6 → FewPoints list c
     → map manifoldOf (take c list) ≡ nonEmpty (map f (map (λ j. proposedManifoldAt w (place.manifoldsPlace + j * place.manifoldSize)) (upto n)))
     → ManifoldsAre (nonEmpty (map f (proposalAt w 0))) (record { list = list; count = c })
 unfolding proposalAt manifoldsOf
-manifolds-kept w f n list e l h p =
-    record {
-      manifolds = p ∙ ap (λ (m : ℕ). nonEmpty (map f (map (λ j. proposedManifoldAt w (place.manifoldsPlace + j * place.manifoldSize)) (upto m)))) e;
-      few = record { manifolds = l; points = h };
-    }
+manifolds-kept w f n {c} list e size l h p =
+    let same = p ∙ ap (λ (m : ℕ). nonEmpty (map f (map (λ j. proposedManifoldAt w (place.manifoldsPlace + j * place.manifoldSize)) (upto m)))) e in
+    record { manifolds = same; few = record { manifolds = l; points = h }; count = ap length (sym same) ∙ length-view manifoldOf c list (omega arith) }
 
 -- ---- the hook's answer
 module _ (t : Float) (a b : sides.Side) (f : surfaces.Surface) (answer : Bool) (proposal : List ProposedManifold) (r : ContactManifolds) {h : Bool} (asked : h ≡ answer)
@@ -161,15 +159,15 @@ module _ (t : Float) (a b : sides.Side) (f : surfaces.Surface) (answer : Bool) (
   unfolding remaining hooked manifoldsOf
   hook-no {modify} m n =
       let e : answer ≡ false = sym asked ∙ not-true h n in
-      record { manifolds = rw (m, e); few = record { manifolds = omega arith; points = record { each = λ k d l. absurd (omega arith) } } }
+      record { manifolds = rw (m, e); few = record { manifolds = omega arith; points = record { each = λ k d l. absurd (omega arith) } }; count = rw (m, e) }
 
   -- a pair that is not marked, and yes
   pub hook-unmarked : {modify : Bool} → modify ≡ false → ManifoldsAre (remaining t a b f modify answer proposal) r
   unfolding remaining hooked
-  hook-unmarked {modify} m = record { manifolds = rw m (made .manifolds); few = made .few }
+  hook-unmarked {modify} m = record { manifolds = rw m (made .manifolds); few = made .few; count = rw m (made .count) }
 
   pub hook-yes : {modify : Bool} → modify ≡ true → not h ≡ false → ManifoldsAre (remaining t a b f modify answer proposal) r
   unfolding remaining hooked
   hook-yes {modify} m n =
       let e : answer ≡ true = sym asked ∙ not-false h n in
-      record { manifolds = rw (m, e) (made .manifolds); few = made .few }
+      record { manifolds = rw (m, e) (made .manifolds); few = made .few; count = rw (m, e) (made .count) }

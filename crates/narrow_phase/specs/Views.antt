@@ -46,8 +46,10 @@ pub record ManifoldIs (m : Manifold) (r : ContactManifold) : Type 0 where
 pub record ManifoldsAre (ms : List Manifold) (r : ContactManifolds) : Type 0 where
   pub manifolds : manifoldsOf r ≡ ms
   pub few : FewManifolds r
+  pub count : length ms ≡ r .count
 
 -- The promise of `match_list`: each manifold matched against all the old ones.
 pub record MatchedManifolds (threshold : Float) (olds news r : ContactManifolds) : Type 0 where
   pub manifolds : manifoldsOf r ≡ map (matchAll byNumber threshold (manifoldsOf olds)) (manifoldsOf news)
   pub few : FewManifolds r
+  pub count : r .count ≡ news .count

@@ -66,7 +66,7 @@ returns : tie.Need-returns Inv-loop μ-loop
 returns c =
     let w = c .before .loop in
     let e : w .k ≡ c .before .before .before .load-word .result = search needs in
-    manifolds-kept _ _ (c .before .before .before .load-word .result) _ (c .before .before .before .load-word .ensures) (omega (arith, w .inv .1, c .before .before .before .load-word .ensures, c .before .before .before .before .before .pre .1 .manifolds)) (w .inv .3) (rw e at (w .inv .4))
+    manifolds-kept _ _ (c .before .before .before .load-word .result) _ (c .before .before .before .load-word .ensures) (w .inv .2) (omega (arith, w .inv .1, c .before .before .before .load-word .ensures, c .before .before .before .before .before .pre .1 .manifolds)) (w .inv .3) (rw e at (w .inv .4))
 
 pub new-manifolds-spec : {M : Type 1} → statement M
 new-manifolds-spec =

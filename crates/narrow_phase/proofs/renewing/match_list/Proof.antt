@@ -46,7 +46,7 @@ returns : tie.Need-returns Inv-loop μ-loop
 returns c =
     let w = c .before .loop in
     let e : w .k ≡ c .before .before .before .args .news .count = search needs in
-    record { manifolds = list-matched _ (c .before .before .before .args .news .count) (c .before .before .before .args .news .list) (w .list) (rw e at (w .inv .3)); few = record { manifolds = c .before .before .before .pre .0 .manifolds; points = w .inv .2 } }
+    record { manifolds = list-matched _ (c .before .before .before .args .news .count) (c .before .before .before .args .news .list) (w .list) (rw e at (w .inv .3)); few = record { manifolds = c .before .before .before .pre .0 .manifolds; points = w .inv .2 }; count = refl }
 
 pub match-list-spec : {M : Type 1} → statement M
 match-list-spec =

@@ -1,0 +1,74 @@
+// A recycled pair: its penetrations follow the bodies, and nothing else of its manifolds changes. Rule 5.
+ghost use mathlib.Core.Path.{_≡_};
+ghost use mathlib.Core.List.{[], _∷_, map};
+ghost use Prim.Native.Nat.{_+_, _≤_};
+ghost use lib.ListN.{length};
+ghost use Rattle.rows.specs.Rows.{put};
+ghost use Rattle.rules.specs.Recycling.{recycledManifold};
+ghost use Rattle.collider.specs.Views.{plainSide};
+ghost use Rattle.contact_types.specs.Views.{pointsOf};
+ghost use Rattle.contact_records.specs.Counts.{Counted};
+ghost use Rattle.contact_records.specs.Layout.{contactSize, manifoldsPlace};
+ghost use Rattle.contact_records.specs.Recorded.{manifoldsAt};
+ghost use Rattle.contact_records.specs.StateViews.{cachedOf};
+ghost use Rattle.contact_records.specs.Written.{markWord};
+ghost use Rattle.contact_update.specs.After.{pointsPut, manifoldsPut};
+ghost use Rattle.contact_update.specs.Updates.{pointAfter, manifoldAfter};
+use collider::side::Side;
+use contact_graph::layout::MANIFOLD_SIZE;
+use contact_graph::layout::MANIFOLDS_PLACE;
+use contact_records::manifold::load_manifold;
+use contact_records::state::mark_word;
+use contact_types::contact_manifold::ContactManifold;
+use contact_types::contact_manifold::ContactRecyclingCache;
+use narrow_phase::recycling::Motion;
+use narrow_phase::recycling::motion_of;
+use narrow_phase::recycling::recycled_penetration;
+use words::row::load_word;
+use words::row::store_float;
+use words::row::store_word;
+use words::row::store_words;
+
+// The penetrations of a manifold's points, which stand from a place on.
+fn recycle_points(words: &mut [u32], at: usize, m: ContactManifold, motion: Motion)
+    requires { ⌜ (m .count ≤ 4) × (at + 72 ≤ length (now words)) ⌝ }
+    ensures { λ _. ⌜ now (words .exit) ≡ pointsPut (map (pointAfter motion (m .normal)) (pointsOf m)) at (now (words .entry)) ⌝ }
+{
+    let points = m.points;
+    let normal = m.normal;
+    let n = m.count as usize;
+    let mut k = 0;
+    while k < n {
+        let p = points[k];
+        let penetration = recycled_penetration(motion, normal, p);
+        store_float(words, at + k * 18 + 9, penetration);
+        k += 1;
+    }
+}
+
+// Each manifold is read where it stands: what was written stands before it.
+fn recycle_manifolds(words: &mut [u32], motion: Motion)
+    requires { ⌜ (length (now words) ≡ contactSize) × Counted (now words) manifoldsPlace ⌝ }
+    ensures { λ _. ⌜ now (words .exit) ≡ manifoldsPut (map (manifoldAfter motion) (manifoldsAt (now (words .entry)) manifoldsPlace)) (manifoldsPlace + 1) (now (words .entry)) ⌝ }
+{
+    let n = load_word(words, MANIFOLDS_PLACE) as usize;
+    let mut k = 0;
+    while k < n {
+        let at = MANIFOLDS_PLACE + 1 + k * MANIFOLD_SIZE;
+        let m = load_manifold(words, at);
+        recycle_points(words, at + 9, m, motion);
+        k += 1;
+    }
+}
+
+// And the static marks, and the speculative distance.
+pub fn recycle_words(words: &mut [u32], a: Side, b: Side, cache: ContactRecyclingCache)
+    requires { ⌜ (length (now words) ≡ contactSize) × Counted (now words) manifoldsPlace ⌝ }
+    ensures { λ _. ⌜ now (words .exit) ≡ put (put (manifoldsPut (map (recycledManifold (plainSide a) (plainSide b) (cachedOf cache)) (manifoldsAt (now (words .entry)) manifoldsPlace)) (manifoldsPlace + 1) (now (words .entry))) 15 (markWord (a .fixed) ∷ markWord (b .fixed) ∷ [])) 19 (0 ∷ []) ⌝ }
+{
+    let motion = motion_of(a, b, cache);
+    recycle_manifolds(words, motion);
+    let marks = [mark_word(a.fixed), mark_word(b.fixed)];
+    store_words(words, 15, &marks);
+    store_word(words, 19, 0);
+}
