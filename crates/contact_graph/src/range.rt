@@ -125,7 +125,7 @@ fn manifolds_fit(graph: &[u32], at: usize) -> bool
 }
 
 // The record that begins at `at`.
-fn contact_fits(graph: &[u32], at: usize) -> bool
+pub fn contact_fits(graph: &[u32], at: usize) -> bool
     requires { ⌜ at + contactSize ≤ length (now graph) ⌝ }
     ensures { λ r. ⌜ r ≡ contactFits (now (graph .entry)) at ⌝ }
 {

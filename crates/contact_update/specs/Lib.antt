@@ -14,3 +14,5 @@ pub mod ManifoldTurns
 pub mod Branches
 pub mod RenewLaws
 pub mod RecordReads
+pub mod Contact
+pub mod ContactLaws

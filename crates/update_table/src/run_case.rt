@@ -1,0 +1,64 @@
+// One case through the update, where its words are in range.
+use collider::range::colliders_fit;
+use collider::settings::load_settings;
+use contact_graph::range::contact_fits;
+use contact_update::record::update_record;
+use proposals::proposal::proposal_fits;
+
+pub struct CaseOutcome {
+    // The words are in range, and the update was made.
+    pub ran: bool,
+    pub bit: bool,
+    pub recycled: bool,
+    pub distance: f32,
+}
+
+impl CaseOutcome {
+    const REFUSED: Self = CaseOutcome {
+        ran: false,
+        bit: false,
+        recycled: false,
+        distance: 0.0,
+    };
+}
+
+pub fn run_case(
+    settings: &[u32],
+    colliders: &[u32],
+    bodies: &[u32],
+    proposal: &[u32],
+    record: &mut [u32],
+) -> CaseOutcome {
+    if settings.len() != 10 {
+        return CaseOutcome::REFUSED;
+    }
+    if colliders.len() != 5888 {
+        return CaseOutcome::REFUSED;
+    }
+    if bodies.len() != 3328 {
+        return CaseOutcome::REFUSED;
+    }
+    if proposal.len() != 2330 {
+        return CaseOutcome::REFUSED;
+    }
+    if record.len() != 523 {
+        return CaseOutcome::REFUSED;
+    }
+    if !colliders_fit(colliders) {
+        return CaseOutcome::REFUSED;
+    }
+    if !proposal_fits(proposal, 0) {
+        return CaseOutcome::REFUSED;
+    }
+    if !contact_fits(record, 0) {
+        return CaseOutcome::REFUSED;
+    }
+    let s = load_settings(settings);
+    let o = update_record(s, colliders, bodies, proposal, record);
+    CaseOutcome {
+        ran: true,
+        bit: o.bit,
+        recycled: o.recycled,
+        distance: o.distance,
+    }
+}

@@ -1,0 +1,136 @@
+// The cases: each is drawn into the rows, updated, and printed as its number, the status bit, recycled or not, the reported
+// distance, the number of manifolds, and a hash of what the record then records.
+use crate::bodies::body_word;
+use crate::cache::fill_cache;
+use crate::colliders::collider_word;
+use crate::draws::draw;
+use crate::draws::slot;
+use crate::hash::hash_of;
+use crate::hash::manifold_count;
+use crate::line::print_count;
+use crate::line::print_end;
+use crate::line::print_mark;
+use crate::line::print_name;
+use crate::line::print_number;
+use crate::line::print_word;
+use crate::manifolds::proposal_word;
+use crate::places::put;
+use crate::record::record_word;
+use crate::run_case::CaseOutcome;
+use crate::run_case::run_case;
+use crate::settings::setting_word;
+use math::bits::bits_of;
+
+// What a row, or a record in it, holds.
+enum Drawn {
+    Settings,
+    Collider(u32),
+    Body(u32),
+    Proposal,
+    Record,
+}
+
+fn drawn_word(what: Drawn, case: u32, i: u32) -> u32 {
+    match what {
+        Drawn::Settings => setting_word(case, i),
+        Drawn::Collider(n) => collider_word(case, n, i),
+        Drawn::Body(n) => body_word(case, n, i),
+        Drawn::Proposal => proposal_word(case, i),
+        Drawn::Record => record_word(case, i),
+    }
+}
+
+// As many words from a place on.
+fn fill(row: &mut [u32], from: u32, count: u32, what: Drawn, case: u32) {
+    let mut i = 0;
+    while i < count {
+        put(row, slot(from, i), drawn_word(what, case, i));
+        i += 1;
+    }
+}
+
+fn fill_colliders(colliders: &mut [u32], case: u32) {
+    fill(colliders, 0, 23, Drawn::Collider(0), case);
+    fill(colliders, 23, 23, Drawn::Collider(1), case);
+}
+
+fn fill_bodies(bodies: &mut [u32], case: u32) {
+    fill(bodies, 0, 26, Drawn::Body(0), case);
+    fill(bodies, 26, 26, Drawn::Body(1), case);
+}
+
+fn fill_record(colliders: &[u32], bodies: &[u32], record: &mut [u32], case: u32) {
+    fill(record, 0, 523, Drawn::Record, case);
+    fill_cache(colliders, bodies, record, case);
+}
+
+fn fill_case(
+    settings: &mut [u32],
+    colliders: &mut [u32],
+    bodies: &mut [u32],
+    proposal: &mut [u32],
+    record: &mut [u32],
+    case: u32,
+) {
+    fill(settings, 0, 10, Drawn::Settings, case);
+    fill_colliders(colliders, case);
+    fill_bodies(bodies, case);
+    fill(proposal, 0, 2330, Drawn::Proposal, case);
+    fill_record(colliders, bodies, record, case);
+}
+
+fn print_outcome(c: u32, o: CaseOutcome, record: &[u32]) {
+    print_number(c);
+    if o.ran {
+        print_mark(o.bit);
+        print_mark(o.recycled);
+        print_word(bits_of(o.distance));
+        print_count(manifold_count(record));
+        print_word(hash_of(record));
+    } else {
+        print_name(b"\trefused");
+    }
+    print_end();
+}
+
+fn print_case(
+    settings: &mut [u32],
+    colliders: &mut [u32],
+    bodies: &mut [u32],
+    proposal: &mut [u32],
+    record: &mut [u32],
+    c: u32,
+) {
+    fill_case(settings, colliders, bodies, proposal, record, draw(c, 0));
+    let o = run_case(settings, colliders, bodies, proposal, record);
+    print_outcome(c, o, record);
+}
+
+fn print_each(
+    settings: &mut [u32],
+    colliders: &mut [u32],
+    bodies: &mut [u32],
+    proposal: &mut [u32],
+    record: &mut [u32],
+) {
+    let mut c = 0;
+    while c < 1500 {
+        print_case(settings, colliders, bodies, proposal, record, c);
+        c += 1;
+    }
+}
+
+pub fn print_cases() {
+    let mut settings = [0u32; 10];
+    let mut colliders = [0u32; 5888];
+    let mut bodies = [0u32; 3328];
+    let mut proposal = [0u32; 2330];
+    let mut record = [0u32; 523];
+    print_each(
+        &mut settings,
+        &mut colliders,
+        &mut bodies,
+        &mut proposal,
+        &mut record,
+    );
+}
