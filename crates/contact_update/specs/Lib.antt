@@ -16,3 +16,4 @@ pub mod RenewLaws
 pub mod RecordReads
 pub mod Contact
 pub mod ContactLaws
+pub mod UpdateLaws
