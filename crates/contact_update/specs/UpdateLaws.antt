@@ -11,7 +11,7 @@ use Rattle.rules.specs.Records.{Cache, Pair}
 use Rattle.rules.specs.Recycling.{recycles}
 use Rattle.rules.specs.Sides.{Side, overlap, interact, sideOf}
 use Rattle.rules.specs.Surface.{frictionOf, restitutionOf}
-use Rattle.rules.specs.Update.{apart, full, Updated, bodyOf, disjoint, renewed, overlapping, updatedBetween}
+use Rattle.rules.specs.Update.{apart, full, isRecycled, Updated, bodyOf, disjoint, renewed, overlapping, updatedBetween}
 use Rattle.contact_records.specs.Fit.{FitPair}
 use Rattle.contact_records.specs.Layout as record-place
 use Rattle.contact_graph.specs.Checked.{Checked}
@@ -57,6 +57,34 @@ module _ (s : Settings) (answer : Bool) (proposal : List ProposedManifold) where
           (record { pair = disjoint p; way = apart; bit = true; distance = zeroF }))
       go true n = overlapping-distance c1 c2 _ _ p _ (p .cache) n
       go false n = refl
+
+-- ---- the count of recycled pairs
+abbrev pub counted : Updated → ℕ
+counted u = cond (isRecycled (u .way)) 1 0
+
+module _ (s : Settings) (answer : Bool) (proposal : List ProposedManifold) (c1 c2 : Collider) (p : Pair) where
+  overlapping-counted : (a b : Side) (touching : Bool) (k : Option Cache)
+      → counted (overlapping s answer proposal c1 c2 a b p (recycles s touching a b k) k) ≡ cond (recycles s touching a b k) 1 0
+  unfolding overlapping renewed recycles
+  overlapping-counted a b touching none = refl
+  overlapping-counted a b touching (some k) = go (recycles s touching a b (some k))
+    where
+      go : (t : Bool) → counted (overlapping s answer proposal c1 c2 a b p t (some k)) ≡ cond t 1 0
+      go true = refl
+      go false = refl
+
+  module _ (body : ℕ → Option Body) where
+    -- a pair that goes on to rule 4 counts once where that recycles it
+    pub counts-once : overlap c1 c2 (p .speculative) && interact c1 c2 ≡ true
+        → counted (updatedBetween s body answer proposal p (some c1) (some c2))
+        ≡ cond (recycles s (p .flags .touching) (sideOf c1 (bodyOf body (c1 .body))) (sideOf c2 (bodyOf body (c2 .body))) (p .cache)) 1 0
+    unfolding updatedBetween
+    counts-once e = rw e (overlapping-counted (sideOf c1 (bodyOf body (c1 .body))) (sideOf c2 (bodyOf body (c2 .body))) (p .flags .touching) (p .cache))
+
+    -- and no other counts
+    pub counts-none : overlap c1 c2 (p .speculative) && interact c1 c2 ≡ false → counted (updatedBetween s body answer proposal p (some c1) (some c2)) ≡ 0
+    unfolding updatedBetween
+    counts-none e = rw e
 
 -- ---- a contact in the graph
 module _ (s : Settings) (colliders bodies proposals : List ℕ) (id : ℕ) where
