@@ -17,6 +17,7 @@ use Rattle.rows.specs.SlotLaws.{slots-apart}
 use Rattle.rules.specs.Limits.{bodies}
 use Rattle.rules.specs.Numbers.{any}
 use Rattle.rules.specs.NumberLaws.{any-same}
+use Rattle.rules.specs.Stripped.{strippedPoint, strippedManifold, stripped}
 use Rattle.words.specs.Words.{wordAt}
 use Rattle.contact_records.specs.Apart.{vec3-same, names-same, edge-same, flags-same, cache-same}
 use Rattle.contact_records.specs.Held.{Same, same-in, word-same, first-same}
@@ -31,7 +32,7 @@ use Rattle.contact_graph.specs.RangeShown.{EachInRange, each-in-range}
 use Rattle.contact_graph.specs.Checked.{Checked}
 use Rattle.contact_graph.specs.Effects.{contact-after, differ, same-or-not}
 use Rattle.contact_graph.specs.AddedGraph.{right-kept, listedPair}
-use Rattle.contact_graph.specs.Impulses.{storedPointPlace, ImpulseAt, ImpulsesWritten, strippedPoint, strippedManifold, stripped, SameButImpulses}
+use Rattle.contact_graph.specs.Impulses.{storedPointPlace, ImpulseAt, ImpulsesWritten, SameButImpulses}
 
 -- ---- a place of a record is one contact's, one manifold's, one point's and one word's
 pub same-offset : (size i k o p : ℕ) → o < size → p < size → i * size + o ≡ k * size + p → o ≡ p

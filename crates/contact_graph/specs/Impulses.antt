@@ -5,11 +5,8 @@ use mathlib.Core.Logic.{_≢_}
 use mathlib.Core.Bool.{true}
 use mathlib.Core.List.{List, map}
 use lib.ListN.{length}
-use Rattle.math.specs.Constants.{zeroF}
-use Rattle.math.specs.Vec.{vec2}
 use Rattle.rules.specs.Graph.{Graph}
-use Rattle.rules.specs.Matching.{withPoints}
-use Rattle.rules.specs.Records.{Point, Manifold, Pair}
+use Rattle.rules.specs.Stripped.{stripped}
 use Rattle.words.specs.Words.{wordAt}
 use Rattle.contact_records.specs.Layout as record-place
 use Rattle.contact_graph.specs.Recorded.{contactAt}
@@ -41,38 +38,6 @@ pub record ImpulsesWritten (g h : List ℕ) : Type 0 where
   pub rest : (j : ℕ) → (ImpulseAt g j → ⊥) → wordAt h j ≡ wordAt g j
 
 -- ---- in the plain graph
--- a pair but for the impulses of its stored points
-abbrev pub strippedPoint : Point → Point
-strippedPoint p =
-    record {
-      anchor1 = p .anchor1;
-      anchor2 = p .anchor2;
-      point = p .point;
-      penetration = p .penetration;
-      basePenetration = p .basePenetration;
-      normalImpulse = zeroF;
-      normalSpeed = p .normalSpeed;
-      warmStartNormal = zeroF;
-      warmStartTangent = vec2 zeroF zeroF;
-      feature1 = p .feature1;
-      feature2 = p .feature2;
-    }
-
-abbrev pub strippedManifold : Manifold → Manifold
-strippedManifold m = withPoints m (map strippedPoint (m .points))
-
-unfoldable pub stripped : Pair → Pair
-stripped p =
-    record {
-      names = p .names;
-      edge = p .edge;
-      flags = p .flags;
-      manifolds = map strippedManifold (p .manifolds);
-      countChange = p .countChange;
-      speculative = p .speculative;
-      cache = p .cache;
-    }
-
 -- two graphs are the same but for impulses
 pub record SameButImpulses (g h : Graph) : Type 0 where
   pub capacity : h .capacity ≡ g .capacity

@@ -14,3 +14,13 @@ pub mod Surface
 pub mod Filtering
 pub mod Update
 pub mod Cases
+pub mod Stripped
+pub mod Status
+pub mod Runs
+pub mod Lookup
+pub mod Visit
+pub mod Passing
+pub mod Outcome
+pub mod Settling
+pub mod Replay
+pub mod Answers

@@ -1,0 +1,250 @@
+-- One visit of the status pass: it changes the pair with that id, and no other, and says what `saying` says. Assumes nothing.
+use Prim.Native.Nat.{ℕ, suc, _+_, _≤_}
+use mathlib.Core.Path.{_≡_, refl, sym, ap, subst, _∙_}
+use mathlib.Core.Logic.{_≢_}
+use mathlib.Core.Bool.{Bool, true, false, cond, _&&_}
+use mathlib.Core.List.{List, [], _∷_, _++_, append-nil}
+use mathlib.Core.Option.{Option, none, some}
+use native.Mathlib.Omega.{arith}
+use lib.Dec.{eqb}
+use lib.ListN.{length, set, length-append, length-set}
+use lib.Seq.{set-append-seam, getD-append-seam}
+use lib.IntN.{pos}
+use Rattle.rules.specs.Records.{Pair}
+use Rattle.rules.specs.Update.{nonZero}
+use Rattle.rules.specs.Graph.{swapRemove, position}
+use Rattle.rules.specs.Status.{Pass, Event, Change, start, started, ended, eventIf, stopIf, countOf, withMarks, marks, written, removed, visitAt, visitFound, visit}
+use Rattle.rules.specs.Lookup.{tally, ids, find, first, rotated, tally-append, tally-ids-append, tally-rotated, find-append, find-none, find-rotated, length-rotated, swapRemove-at, eqb-same, eqb-other, Place, missing, found, place}
+
+-- which case of the pass is taken
+pub data Verdict : Type 0 where
+  vanishes starts stops generates recounts stands : Verdict
+
+abbrev pub pick : Bool → Bool → Bool → Bool → Bool → Verdict
+pick true b c d e = vanishes
+pick false true c d e = starts
+pick false false true d e = stops
+pick false false false true e = generates
+pick false false false false true = recounts
+pick false false false false false = stands
+
+abbrev pub verdict : Pair → Verdict
+verdict p =
+    pick (p .flags .disjointAabb) (p .flags .startedTouching) (p .flags .stoppedTouching) (p .flags .touching && p .flags .startedGenerating)
+    (p .flags .touching && (p .flags .generateConstraints && nonZero (p .countChange)))
+
+-- what becomes of the pair, and what is said
+abbrev pub next : Verdict → Pair → Option Pair
+next vanishes p = none
+next starts p = some (withMarks p true (marks (p .flags) false (p .flags .stoppedTouching) false) (p .countChange))
+next stops p = some (withMarks p false (marks (p .flags) (p .flags .startedTouching) false (p .flags .startedGenerating)) (p .countChange))
+next generates p = some (withMarks p (p .edge .touching) (marks (p .flags) (p .flags .startedTouching) (p .flags .stoppedTouching) false) (p .countChange))
+next recounts p = some (withMarks p (p .edge .touching) (p .flags) (pos 0))
+next stands p = some p
+
+abbrev pub say : Verdict → Pair → List Change
+say vanishes p = stopIf (p .flags .generateConstraints) (p .names)
+say starts p = cond (p .flags .generateConstraints) (start (p .names .id) ∷ []) []
+say stops p = stopIf (p .flags .generateConstraints) (p .names)
+say generates p = start (p .names .id) ∷ []
+say recounts p = countOf (p .names) (p .countChange)
+say stands p = []
+
+abbrev pub becoming : Option Pair → Option Pair
+becoming none = none
+becoming (some p) = next (verdict p) p
+
+abbrev pub saying : Option Pair → List Change
+saying none = []
+saying (some p) = say (verdict p) p
+
+-- what a visit of the id k does
+pub record Effect (k : ℕ) (s s' : Pass) : Type 0 where
+  pub capacity : s' .graph .capacity ≡ s .graph .capacity
+  pub given : s' .graph .given ≡ s .graph .given
+  pub tallied : (x : ℕ) → tally x (ids (s' .graph .pairs)) + tally x (s' .graph .free) ≡ tally x (ids (s .graph .pairs)) + tally x (s .graph .free)
+  pub sized : length (s' .graph .pairs) + length (s' .graph .free) ≡ length (s .graph .pairs) + length (s .graph .free)
+  pub said : s' .changes ≡ s .changes ++ saying (find k (s .graph .pairs))
+  pub here : find k (s' .graph .pairs) ≡ becoming (find k (s .graph .pairs))
+  pub others : (j : ℕ) → j ≢ k → find j (s' .graph .pairs) ≡ find j (s .graph .pairs)
+
+-- ---- the list, with the pair at its place written anew or removed
+
+tally-seam : (x : ℕ) (xs : List Pair) (p : Pair) (ys : List Pair) →
+    tally x (ids (xs ++ p ∷ ys)) ≡ tally x (ids xs) + (cond (eqb (p .names .id) x) 1 0 + tally x (ids ys))
+unfolding tally
+tally-seam x xs p ys = tally-ids-append x xs (p ∷ ys)
+
+pub tally-one : (x y : ℕ) → tally x (y ∷ []) ≡ cond (eqb y x) 1 0
+unfolding tally
+tally-one x y = omega arith
+
+find-seam : (x : ℕ) (xs : List Pair) (p : Pair) (ys : List Pair) → find x (xs ++ p ∷ ys) ≡ first (find x xs) (cond (eqb (p .names .id) x) (some p) (find x ys))
+unfolding find
+find-seam x xs p ys = find-append x xs (p ∷ ys)
+
+-- the pair's own id stands nowhere else
+alone : (k : ℕ) (xs : List Pair) (p : Pair) (ys : List Pair) → p .names .id ≡ k → tally k (ids (xs ++ p ∷ ys)) ≤ 1 → tally k (ids xs) + tally k (ids ys) ≡ 0
+alone k xs p ys i h = go (eqb (p .names .id) k) (rw i (eqb-same k)) (tally-seam k xs p ys)
+  where
+    go : (b : Bool) → b ≡ true → tally k (ids (xs ++ p ∷ ys)) ≡ tally k (ids xs) + (cond b 1 0 + tally k (ids ys)) → tally k (ids xs) + tally k (ids ys) ≡ 0
+    go true e f = omega arith
+    go false e f = absurd (let z : _≡_ {A = ℕ} 0 1 = cc in omega arith)
+
+module _ (k : ℕ) (xs : List Pair) (p : Pair) (ys : List Pair) (i : p .names .id ≡ k) (h : (x : ℕ) → tally x (ids (xs ++ p ∷ ys)) ≤ 1) where
+  anew-tally : (q : Pair) → q .names .id ≡ p .names .id → (x : ℕ) → tally x (ids (xs ++ q ∷ ys)) ≡ tally x (ids (xs ++ p ∷ ys))
+  anew-tally q n x =
+      tally-seam x xs q ys ∙ ap (λ (m : ℕ). tally x (ids xs) + (cond (eqb m x) 1 0 + tally x (ids ys))) n ∙ sym (tally-seam x xs p ys)
+
+  anew-here : (q : Pair) → q .names .id ≡ p .names .id → find k (xs ++ q ∷ ys) ≡ some q
+  anew-here q n =
+      find-seam k xs q ys ∙ ap (λ (o : Option Pair). first o (cond (eqb (q .names .id) k) (some q) (find k ys))) (find-none k xs (omega (arith, alone k xs p ys i (h k))))
+      ∙ ap (λ (b : Bool). cond b (some q) (find k ys)) (ap (λ (m : ℕ). eqb m k) (n ∙ i) ∙ eqb-same k)
+
+  others-seam : (q : Pair) → q .names .id ≡ p .names .id → (j : ℕ) → j ≢ k → find j (xs ++ q ∷ ys) ≡ first (find j xs) (find j ys)
+  others-seam q n j d =
+      find-seam j xs q ys ∙ ap (λ (b : Bool). first (find j xs) (cond b (some q) (find j ys))) (eqb-other (q .names .id) j (λ e. d (sym e ∙ n ∙ i)))
+
+  anew-others : (q : Pair) → q .names .id ≡ p .names .id → (j : ℕ) → j ≢ k → find j (xs ++ q ∷ ys) ≡ find j (xs ++ p ∷ ys)
+  anew-others q n j d = others-seam q n j d ∙ sym (others-seam p refl j d)
+
+  gone-tally : (x : ℕ) → tally x (ids (xs ++ rotated ys)) + cond (eqb (p .names .id) x) 1 0 ≡ tally x (ids (xs ++ p ∷ ys))
+  gone-tally x = omega (arith, tally-ids-append x xs (rotated ys), tally-rotated x ys, tally-seam x xs p ys)
+
+  gone-here : find k (xs ++ rotated ys) ≡ none
+  gone-here = find-none k (xs ++ rotated ys) (omega (arith, tally-ids-append k xs (rotated ys), tally-rotated k ys, alone k xs p ys i (h k)))
+
+  gone-others : (j : ℕ) → j ≢ k → find j (xs ++ rotated ys) ≡ find j (xs ++ p ∷ ys)
+  gone-others j d =
+      find-append j xs (rotated ys) ∙ ap (first (find j xs)) (find-rotated j ys (omega (arith, h j, tally-seam j xs p ys))) ∙ sym (others-seam p refl j d)
+
+-- ---- the visit, by its verdict
+
+abbrev visitAs : Pass → ℕ → Pair → Verdict → Pass
+visitAs s i p vanishes = removed s i p (eventIf (p .edge .touching && p .edge .contactEvents) (ended (p .names))) (say vanishes p)
+visitAs s i p starts =
+    written s i (withMarks p true (marks (p .flags) false (p .flags .stoppedTouching) false) (p .countChange)) (eventIf (p .edge .contactEvents) (started (p .names))) (say starts p)
+visitAs s i p stops =
+    written s i (withMarks p false (marks (p .flags) (p .flags .startedTouching) false (p .flags .startedGenerating)) (p .countChange))
+    (eventIf (p .edge .contactEvents) (ended (p .names))) (say stops p)
+visitAs s i p generates =
+    written s i (withMarks p (p .edge .touching) (marks (p .flags) (p .flags .startedTouching) (p .flags .stoppedTouching) false) (p .countChange)) [] (say generates p)
+visitAs s i p recounts = written s i (withMarks p (p .edge .touching) (p .flags) (pos 0)) [] (say recounts p)
+visitAs s i p stands = s
+
+choosing : {X : Type 0} (f : Verdict → X) (t u v w x : Bool) →
+    cond t (f vanishes) (cond u (f starts) (cond v (f stops) (cond w (f generates) (cond x (f recounts) (f stands))))) ≡ f (pick t u v w x)
+choosing f true u v w x = refl
+choosing f false true v w x = refl
+choosing f false false true w x = refl
+choosing f false false false true x = refl
+choosing f false false false false true = refl
+choosing f false false false false false = refl
+
+visitAt-as : (s : Pass) (i : ℕ) (p : Pair) → visitAt s i p ≡ visitAs s i p (verdict p)
+unfolding visitAt
+visitAt-as s i p =
+    choosing (visitAs s i p) (p .flags .disjointAabb) (p .flags .startedTouching) (p .flags .stoppedTouching) (p .flags .touching && p .flags .startedGenerating)
+    (p .flags .touching && (p .flags .generateConstraints && nonZero (p .countChange)))
+
+visitFound-at : (s : Pass) (xs : List Pair) (p : Pair) (ys : List Pair) → visitFound s (some (length xs)) (xs ++ p ∷ ys) ≡ visitAt s (length xs) p
+unfolding visitFound
+visitFound-at s [] p ys = refl
+visitFound-at s (x ∷ xs) p ys = ap (visitAt s (suc (length xs))) (getD-append-seam xs p ys x)
+
+-- the pair written anew
+module _ (k : ℕ) (s : Pass) (xs : List Pair) (p : Pair) (ys : List Pair) (e : s .graph .pairs ≡ xs ++ p ∷ ys) (i : p .names .id ≡ k)
+    (h : (x : ℕ) → tally x (ids (s .graph .pairs)) ≤ 1) where
+  bounded : (x : ℕ) → tally x (ids (xs ++ p ∷ ys)) ≤ 1
+  bounded x = rw e at (h x)
+
+  standing : find k (s .graph .pairs) ≡ some p
+  standing = ap (find k) e ∙ anew-here k xs p ys i bounded p refl
+
+  effect-written : (q : Pair) (es : List Event) (cs : List Change) → q .names .id ≡ p .names .id → becoming (some p) ≡ some q → saying (some p) ≡ cs →
+      Effect k s (written s (length xs) q es cs)
+  effect-written q es cs n b c =
+      let w : set (s .graph .pairs) (length xs) q ≡ xs ++ q ∷ ys = ap (λ (l : List Pair). set l (length xs) q) e ∙ set-append-seam xs p ys q in
+      record {
+        capacity = refl;
+        given = refl;
+        tallied = λ x. ap (λ (l : List Pair). tally x (ids l) + tally x (s .graph .free)) w
+            ∙ ap (λ (m : ℕ). m + tally x (s .graph .free)) (anew-tally k xs p ys i bounded q n x ∙ ap (λ (l : List Pair). tally x (ids l)) (sym e));
+        sized = ap (λ (m : ℕ). m + length (s .graph .free)) (length-set (s .graph .pairs) (length xs) q);
+        said = ap (λ (l : List Change). s .changes ++ l) (sym c ∙ ap saying (sym standing));
+        here = ap (find k) w ∙ anew-here k xs p ys i bounded q n ∙ sym b ∙ ap becoming (sym standing);
+        others = λ j d. ap (find j) w ∙ anew-others k xs p ys i bounded q n j d ∙ ap (find j) (sym e);
+      }
+
+  effect-removed : (es : List Event) (cs : List Change) → becoming (some p) ≡ none → saying (some p) ≡ cs → Effect k s (removed s (length xs) p es cs)
+  effect-removed es cs b c =
+      let w : swapRemove (s .graph .pairs) (length xs) p ≡ xs ++ rotated ys = ap (λ (l : List Pair). swapRemove l (length xs) p) e ∙ swapRemove-at xs p p ys in
+      record {
+        capacity = refl;
+        given = refl;
+        tallied = λ x. omega (
+          arith,
+          ap (λ (l : List Pair). tally x (ids l)) w,
+          tally-append x (s .graph .free) (p .names .id ∷ []),
+          tally-one x (p .names .id),
+          gone-tally k xs p ys i bounded x,
+          ap (λ (l : List Pair). tally x (ids l)) e,
+        );
+        sized = omega (
+          arith,
+          ap (λ (l : List Pair). length l) w,
+          length-append xs (rotated ys),
+          length-rotated ys,
+          length-append (s .graph .free) (p .names .id ∷ []),
+          ap (λ (l : List Pair). length l) e,
+          length-append xs (p ∷ ys),
+        );
+        said = ap (λ (l : List Change). s .changes ++ l) (sym c ∙ ap saying (sym standing));
+        here = ap (find k) w ∙ gone-here k xs p ys i bounded ∙ sym b ∙ ap becoming (sym standing);
+        others = λ j d. ap (find j) w ∙ gone-others k xs p ys i bounded j d ∙ ap (find j) (sym e);
+      }
+
+  effect-none : becoming (some p) ≡ some p → saying (some p) ≡ [] → Effect k s s
+  effect-none b c = record {
+    capacity = refl;
+    given = refl;
+    tallied = λ x. refl;
+    sized = refl;
+    said = sym (append-nil (s .changes)) ∙ ap (λ (l : List Change). s .changes ++ l) (sym c ∙ ap saying (sym standing));
+    here = standing ∙ sym b ∙ ap becoming (sym standing);
+    others = λ j d. refl;
+  }
+
+  effect-as : (v : Verdict) → verdict p ≡ v → Effect k s (visitAs s (length xs) p v)
+  effect-as v n = go v (ap (λ (u : Verdict). next u p) n) (ap (λ (u : Verdict). say u p) n)
+    where
+      go : (v : Verdict) → becoming (some p) ≡ next v p → saying (some p) ≡ say v p → Effect k s (visitAs s (length xs) p v)
+      go vanishes b c = effect-removed _ _ b c
+      go starts b c = effect-written _ _ _ refl b c
+      go stops b c = effect-written _ _ _ refl b c
+      go generates b c = effect-written _ _ _ refl b c
+      go recounts b c = effect-written _ _ _ refl b c
+      go stands b c = effect-none b c
+
+effect-missing : (k : ℕ) (s : Pass) → find k (s .graph .pairs) ≡ none → Effect k s s
+effect-missing k s b = record {
+  capacity = refl;
+  given = refl;
+  tallied = λ x. refl;
+  sized = refl;
+  said = sym (append-nil (s .changes)) ∙ ap (λ (o : Option Pair). s .changes ++ saying o) (sym b);
+  here = b ∙ ap becoming (sym b);
+  others = λ j d. refl;
+}
+
+-- a visit does what `Effect` says, wherever no id stands twice
+pub visited : (k : ℕ) (s : Pass) → ((x : ℕ) → tally x (ids (s .graph .pairs)) ≤ 1) → Effect k s (visit s k)
+unfolding visit visitFound
+visited k s h = go (place k (s .graph .pairs))
+  where
+    go : Place k (s .graph .pairs) → Effect k s (visitFound s (position k (s .graph .pairs)) (s .graph .pairs))
+    go (missing a b) = subst (λ (o : Option ℕ). Effect k s (visitFound s o (s .graph .pairs))) (sym a) (effect-missing k s b)
+    go (found xs p ys e i a b) =
+        subst (Effect k s)
+        (sym (ap (λ (o : Option ℕ). visitFound s o (s .graph .pairs)) a ∙ ap (visitFound s (some (length xs))) e ∙ visitFound-at s xs p ys ∙ visitAt-as s (length xs) p))
+        (effect-as k s xs p ys e i h (verdict p) refl)
