@@ -2,12 +2,11 @@
 use mathlib.Core.Path.{_≡_, refl, sym, ap, subst, _∙_}
 use Prim.Native.Nat.{ℕ, _+_, _*_, _<_}
 use mathlib.Core.Bool.{Bool, true, false, cond, not, _&&_, true≢false}
-use mathlib.Core.List.{List, [], _∷_, _++_}
+use mathlib.Core.List.{List, _∷_, _++_}
 use mathlib.Core.Option.{Option, none, some}
 use borrow.Author.Tests.{ltb-true, not-true, not-false}
 use lib.Dec.{ltb, eqb}
-use lib.Ieee.{Float, ofBits, toBits}
-use lib.ListN.{length}
+use lib.Ieee.{ofBits, toBits}
 use Rattle.rows.specs.Rows.{put}
 use Rattle.rules.specs.Inputs.{Settings, Collider, Body, ProposedManifold}
 use Rattle.rules.specs.Limits.{colliders, bodies}
@@ -19,7 +18,7 @@ use Rattle.rules.specs.Surface.{orElse}
 use Rattle.rules.specs.Update.{Way, isRecycled, Updated, bodyOf, renewed, overlapping, updatedBetween}
 use Rattle.words.specs.Words.{wordAt, floatWord}
 use Rattle.collider.specs.Layout as collider-place
-use Rattle.collider.specs.Range.{isMark, whereSet, coefficientFits, colliderFits, collidersFit}
+use Rattle.collider.specs.Range.{isMark, colliderFits, collidersFit}
 use Rattle.collider.specs.Recorded.{numberIfAt, presentCollider, colliderAt}
 use Rattle.contact_records.specs.StateViews.{flagsOf, cachedOf}
 use Rattle.contact_records.specs.Written.{flagsWords, cacheWords, manifoldsWords, stateWords}

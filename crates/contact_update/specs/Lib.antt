@@ -17,3 +17,4 @@ pub mod RecordReads
 pub mod Contact
 pub mod ContactLaws
 pub mod UpdateLaws
+pub mod Order

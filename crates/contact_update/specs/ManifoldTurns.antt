@@ -7,7 +7,7 @@ use mathlib.Core.List.{List, [], _∷_, map}
 use lib.ListN.{length, getD, take, length-map, List·getD-map}
 use lib.Seq.{take-all}
 use Rattle.rows.specs.Rows.{put}
-use Rattle.rules.specs.Records.{Point, Manifold, Cache}
+use Rattle.rules.specs.Records.{Manifold, Cache}
 use Rattle.rules.specs.Recycling.{recycledManifold}
 use Rattle.rules.specs.Sides.{Side}
 use Rattle.words.specs.Words.{wordAt}

@@ -1,19 +1,15 @@
 -- Penetrations that are put one after another, and a turn of the loops that put them. Assumes nothing.
-use mathlib.Core.Path.{_≡_, refl, sym, ap, _∙_}
+use mathlib.Core.Path.{_≡_, sym, ap, _∙_}
 use Prim.Native.Nat.{ℕ, zero, suc, _+_, _*_, _≤_, _<_}
 use native.Mathlib.Nat.{le-of-suc-le-suc, not-suc-le-zero}
 use native.Mathlib.Numerals.{add-one}
 use native.Mathlib.Omega.{arith}
-use mathlib.Core.List.{List, [], _∷_, map}
-use lib.ListN.{length, getD, take, length-map, length-take}
-use Rattle.rows.specs.Laws.{length-put}
+use mathlib.Core.List.{List, [], _∷_}
+use lib.ListN.{length, getD, take}
 use Rattle.rows.specs.Rows.{put}
-use Rattle.rows.specs.Slots.{upto}
 use Rattle.rules.specs.Records.{Point, Manifold}
 use Rattle.words.specs.Words.{wordAt, floatWord}
 use Rattle.contact_records.specs.Apart.{manifold-same}
-use Rattle.contact_records.specs.Counts.{Counted}
-use Rattle.contact_records.specs.Held.{Same}
 use Rattle.contact_records.specs.Layout as place
 use Rattle.contact_records.specs.Lists.{getD-map-upto, length-map-upto}
 use Rattle.contact_records.specs.Recorded.{manifoldAt, manifoldsAt}

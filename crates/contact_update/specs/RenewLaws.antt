@@ -1,8 +1,8 @@
 -- A full update from what its functions give. Assumes nothing.
 use mathlib.Core.Path.{_≡_, refl, sym, ap, subst, _∙_}
-use Prim.Native.Nat.{ℕ, zero, suc, _≤_}
+use Prim.Native.Nat.{ℕ, zero, suc}
 use native.Mathlib.Omega.{arith}
-use mathlib.Core.Bool.{Bool, true, false, not}
+use mathlib.Core.Bool.{Bool, not}
 use mathlib.Core.List.{List, [], _∷_}
 use mathlib.Core.Option.{some}
 use borrow.Author.Tests.{ne-eqb}
@@ -12,7 +12,7 @@ use lib.ListN.{length}
 use Rattle.math.specs.Floats.{_⊕_}
 use Rattle.rules.specs.Filtering.{isEmpty}
 use Rattle.rules.specs.Inputs.{Settings, Collider, ProposedManifold}
-use Rattle.rules.specs.Records.{Manifold, PairFlags, Pair}
+use Rattle.rules.specs.Records.{Manifold, Pair}
 use Rattle.rules.specs.Sides.{Side}
 use Rattle.rules.specs.Surface as surfaces
 use Rattle.rules.specs.Update.{cacheOf, enabled, matched, changeOf, remaining, renewedFlags, statusBit, renewed}

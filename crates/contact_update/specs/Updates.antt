@@ -4,7 +4,6 @@ use mathlib.Core.Path.{_≡_}
 use mathlib.Core.Bool.{true, false}
 use mathlib.Core.List.{List, map}
 use mathlib.Core.Option.{Option, some}
-use lib.Ieee.{Float}
 use lib.ListN.{length}
 use Rattle.math.specs.Constants.{zeroF}
 use Rattle.math.specs.declared.vec.Vec3.{Vec3}
@@ -13,7 +12,7 @@ use Rattle.rules.specs.Limits.{bodies}
 use Rattle.rules.specs.Matching.{withPoints}
 use Rattle.rules.specs.Records.{Point, Manifold, Pair}
 use Rattle.rules.specs.Recycling.{withPenetration}
-use Rattle.rules.specs.Update.{Way, full, isRecycled, Updated}
+use Rattle.rules.specs.Update.{full, isRecycled, Updated}
 use Rattle.collider.specs.Layout.{collidersLength, bodiesLength}
 use Rattle.collider.specs.Range.{collidersFit}
 use Rattle.contact_records.specs.Layout.{contactSize}

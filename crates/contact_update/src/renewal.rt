@@ -1,7 +1,7 @@
 // A full update of a pair: rules 6 to 12, on values, and the words that it writes.
 ghost use mathlib.Core.Path.{_≡_};
 ghost use mathlib.Core.List.{[], _∷_, _++_};
-ghost use Prim.Native.Nat.{_+_, _≤_};
+ghost use Prim.Native.Nat.{_+_};
 ghost use lib.ListN.{length};
 ghost use Rattle.rows.specs.Rows.{put};
 ghost use Rattle.rules.specs.Update.{renewed};

@@ -1,10 +1,10 @@
 -- Pruning by the code's structs is the rule's: the kept numbers are points', and the points picked by them are the rule's. Assumes nothing.
 use mathlib.Core.Path.{_≡_, refl, sym, ap, subst, _∙_}
 use Prim.Native.Nat.{ℕ, zero, suc, _+_, _≤_, _<_}
-use native.Mathlib.Nat.{eq-or-lt-of-le, zero-lt-suc}
+use native.Mathlib.Nat.{eq-or-lt-of-le}
 use native.Mathlib.Omega.{arith}
 use mathlib.Core.Logic.{inl, inr}
-use mathlib.Core.Bool.{true, false, cond}
+use mathlib.Core.Bool.{true, false}
 use mathlib.Core.List.{List, [], _∷_, _++_, map}
 use mathlib.Core.Option.{Option, none, some}
 use borrow.Author.Tests.{le-ltb, lt-ltb}
@@ -23,7 +23,7 @@ use Rattle.contact_types.specs.declared.contact_point.ContactPoint.{ContactPoin
 use Rattle.contact_types.specs.declared.pruning.KeptPoints.{KeptPoints}
 use Rattle.contact_types.specs.declared.pruning.PrunePoint.{PrunePoint}
 use Rattle.narrow_phase.specs.Keeping.{Viewed, Picked, PickedKept}
-use Rattle.narrow_phase.specs.ListLaws.{view-at, length-view, in-range, four-first, none-below, one-below}
+use Rattle.narrow_phase.specs.ListLaws.{view-at, length-view, in-range, none-below, one-below}
 use Rattle.narrow_phase.specs.Views.{firstPoints, PrunedTo}
 use Rattle.narrow_phase.specs.declared.manifold.ManifoldPoints.{ManifoldPoints}
 

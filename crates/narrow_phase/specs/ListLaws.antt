@@ -5,7 +5,7 @@ use native.Mathlib.Nat.{add-zero, le-of-suc-le-suc, not-suc-le-zero}
 use native.Mathlib.Numerals.{add-one}
 use native.Mathlib.Omega.{arith}
 use mathlib.Core.Bool.{Bool, true, false, cond}
-use mathlib.Core.List.{List, [], _∷_, _++_, map, append-nil, append-assoc, map-append}
+use mathlib.Core.List.{List, [], _∷_, _++_, map, append-nil, map-append}
 use lib.ListN.{length, getD, set, take, length-map, length-take}
 use lib.Seq.{take-suc-set}
 use Rattle.rows.specs.Slots.{AllBelow}

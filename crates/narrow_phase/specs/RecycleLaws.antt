@@ -1,5 +1,5 @@
 -- What the recycle test's branches say: each test that holds abandons recycling, and so no NaN does. Assumes nothing.
-use mathlib.Core.Path.{_≡_, refl, sym, ap, _∙_}
+use mathlib.Core.Path.{_≡_, refl}
 use mathlib.Core.Bool.{Bool, true, false}
 use mathlib.Core.Option.{Option, none, some}
 use lib.Ieee.{Float, nan, le}

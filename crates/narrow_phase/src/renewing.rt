@@ -1,6 +1,5 @@
 // What a full update makes of a pair besides its new manifolds: cache, flags, status bit, warm starting. Rules 6, 11 and 12.
 ghost use mathlib.Core.Path.{_≡_};
-ghost use mathlib.Core.Option.{some};
 ghost use lib.IntN.{pos, _-ℤ_};
 ghost use Prim.Native.Nat.{_≤_};
 ghost use Rattle.rules.specs.Update.{cacheOf, enabled, matched, renewedFlags, statusBit};

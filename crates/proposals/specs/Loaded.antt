@@ -1,6 +1,6 @@
 -- A proposed point that is loaded field by field, and the counts that the test passed. Assumes nothing.
 use mathlib.Core.Path.{_≡_, refl, sym}
-use Prim.Native.Nat.{ℕ, _+_, _*_, _≤_, _<_}
+use Prim.Native.Nat.{ℕ, _+_, _*_}
 use mathlib.Core.Bool.{Bool, true, false, _&&_, true≢false}
 use mathlib.Core.List.{List}
 use borrow.Author.Tests.{leb-true}
@@ -10,7 +10,6 @@ use Rattle.math.specs.declared.vec.Vec3.{Vec3}
 use Rattle.rules.specs.Limits.{proposedPoints, pairManifolds}
 use Rattle.rules.specs.Numbers.{every}
 use Rattle.rules.specs.NumberLaws.{every-at}
-use Rattle.contact_types.specs.declared.feature_id.PackedFeatureId.{PackedFeatureId}
 use Rattle.words.specs.Words.{wordAt, floatAt, vec3At}
 use Rattle.proposals.specs.Layout as place
 use Rattle.proposals.specs.Range.{proposalFits, Proposed}

@@ -1,5 +1,5 @@
 -- `contact_update::record::named_body` meets its contract. Assumes nothing.
-use mathlib.Core.Path.{refl, ap}
+use mathlib.Core.Path.{ap}
 use Rattle.collider.specs.Views.{plainNumberIf}
 use borrow.Author.Needs.{needs}
 use Rattle.contact_update.proofs.record.named_body.Statement.{statement}

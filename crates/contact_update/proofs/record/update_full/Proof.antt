@@ -1,5 +1,5 @@
 -- `contact_update::record::update_full` meets its contract. Assumes nothing.
-use mathlib.Core.Path.{_≡_, sym, ap, _∙_}
+use mathlib.Core.Path.{sym, ap, _∙_}
 use native.Mathlib.Omega.{arith}
 use lib.ListN.{length}
 use Rattle.contact_records.specs.Recorded.{pairAt}

@@ -1,15 +1,14 @@
 -- `contact_update::recycled::recycle_manifolds` meets its contract: the first k manifolds are recycled, and the rest is as it was. Assumes nothing.
-use mathlib.Core.Path.{_≡_, refl, sym, ap, subst, _∙_}
+use mathlib.Core.Path.{_≡_, refl}
 use mathlib.Core.List.{map}
 use Prim.Native.Nat.{_≤_, _<_, _+_, _*_, _-_}
 use native.Mathlib.Omega.{arith}
-use lib.ListN.{length, take, length-map}
+use lib.ListN.{length, take}
 use Rattle.words.specs.Words.{wordAt}
-use Rattle.contact_types.specs.Views.{manifoldOf}
 use Rattle.contact_records.specs.Recorded.{manifoldsAt}
 use Rattle.contact_update.specs.After.{manifoldsPut}
 use Rattle.contact_update.specs.ManifoldTurns.{manifolds-turn, manifolds-all, left-turn}
-use Rattle.contact_update.specs.PutLaws.{Left, manifolds-length}
+use Rattle.contact_update.specs.PutLaws.{Left}
 use Rattle.contact_update.specs.Updates.{manifoldAfter}
 use borrow.Author.Needs.{needs}
 use Rattle.contact_update.proofs.recycled.recycle_manifolds.Statement.{statement}

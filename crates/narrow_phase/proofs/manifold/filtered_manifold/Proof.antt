@@ -1,5 +1,4 @@
 -- `narrow_phase::manifold::filtered_manifold` meets its contract. Assumes nothing.
-use mathlib.Core.Path.{_≡_, refl, ap, _∙_}
 use native.Mathlib.Omega.{arith}
 use Rattle.narrow_phase.specs.StayingLaws.{manifold-filtered}
 use borrow.Author.Needs.{needs}

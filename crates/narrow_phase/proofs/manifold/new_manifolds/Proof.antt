@@ -1,11 +1,11 @@
 -- `narrow_phase::manifold::new_manifolds` meets its contract: of the manifolds passed, those with points left are in front. Assumes nothing.
-use mathlib.Core.Path.{_≡_, refl, ap, _∙_}
+use mathlib.Core.Path.{_≡_, refl}
 use mathlib.Core.Bool.{not}
 use mathlib.Core.List.{map}
 use Prim.Native.Nat.{_≤_, _<_, _+_, _*_, _-_}
 use native.Mathlib.Omega.{arith}
 use lib.Dec.{eqb}
-use lib.ListN.{length, length-set, take, length-map}
+use lib.ListN.{length, length-set, take}
 use Rattle.rows.specs.Slots.{upto}
 use Rattle.rules.specs.Filtering.{filtered, nonEmpty}
 use Rattle.collider.specs.Views.{plainSide}

@@ -2,7 +2,7 @@
 use mathlib.Core.Path.{_≡_, refl}
 use Prim.Native.Nat.{_≤_, _-_}
 use native.Mathlib.Omega.{arith}
-use lib.ListN.{length, length-set, length-map}
+use lib.ListN.{length, length-set}
 use Rattle.narrow_phase.specs.Keeping.{Viewed}
 use Rattle.narrow_phase.specs.KeepingLaws.{view-step}
 use borrow.Author.Needs.{needs}

@@ -10,7 +10,7 @@ use Rattle.collider.specs.Views.{plainSide}
 use Rattle.proposals.specs.Recorded.{proposedPointsAt}
 use Rattle.narrow_phase.specs.ListLaws.{one-most}
 use Rattle.narrow_phase.specs.StayingLaws.{stays-step}
-use Rattle.narrow_phase.specs.Views.{firstPoints, Stayed}
+use Rattle.narrow_phase.specs.Views.{firstPoints}
 use borrow.Author.Needs.{needs}
 use Rattle.narrow_phase.proofs.manifold.staying_points.Statement.{statement}
 use Rattle.narrow_phase.proofs.manifold.staying_points.Tie as tie

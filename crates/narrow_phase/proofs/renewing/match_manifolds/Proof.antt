@@ -1,6 +1,5 @@
 -- `narrow_phase::renewing::match_manifolds` meets its contract. Assumes nothing.
 use mathlib.Core.Path.{_≡_}
-use Prim.Native.Nat.{_≤_}
 use native.Mathlib.Omega.{arith}
 use lib.ListN.{length, length-map}
 use Rattle.narrow_phase.specs.MatchLaws.{match-off, match-many, match-done}

@@ -1,5 +1,5 @@
 -- `proposals::proposal::proposal_fits` meets its contract: the manifolds passed have at most 32 points. Assumes nothing.
-use mathlib.Core.Path.{_≡_, refl, sym}
+use mathlib.Core.Path.{_≡_, refl}
 use mathlib.Core.List.{List}
 use mathlib.Core.Bool.{Bool, true}
 use Prim.Native.Nat.{ℕ, _≤_, _+_, _*_, _-_}
