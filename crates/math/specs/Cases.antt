@@ -1,4 +1,4 @@
--- Document 01's cases of the root, C7 to C9, and other values of it, by computing them. Assumes nothing.
+-- The specification's cases of the root, C7 to C9, and other values of it, by computing them. Assumes nothing.
 use mathlib.Core.Path.{_≡_, refl}
 use lib.Ieee.{nan, ofBits}
 use Rattle.math.specs.Constants.{bits}

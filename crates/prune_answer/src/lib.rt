@@ -1,2 +1,2 @@
-// What `prunelist` answers to a text: the kept points' numbers or a refusal's. Document 01, 'Prune listing'.
+// What `prunelist` answers to a text: the kept points' numbers or a refusal's. The specification, 'Prune listing'.
 pub mod answer;

@@ -1,4 +1,4 @@
--- The lines that `prunelist` writes: K and a kept number, or R and a refusal's. Document 01, 'Prune listing'. Definitions only.
+-- The lines that `prunelist` writes: K and a kept number, or R and a refusal's. The specification, 'Prune listing'. Definitions only.
 use mathlib.Core.Path.{_≡_}
 use Prim.Native.Nat.{ℕ, _+_, _/_, _%_}
 use mathlib.Core.Bool.{cond}

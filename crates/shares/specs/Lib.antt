@@ -1,0 +1,4 @@
+pub mod Layout
+pub mod Shares
+pub mod Counting
+pub mod SharesLaws

@@ -1,0 +1,78 @@
+// Refusal 7: workers not 1 to 8, some active pair not listed once among their shares, or anything else listed. Linear in the entries.
+ghost use mathlib.Core.Path.{_≡_};
+ghost use mathlib.Core.Bool.{_&&_};
+ghost use Prim.Native.Nat.{_+_, _≤_};
+ghost use lib.ListN.{length};
+ghost use Rattle.contact_graph.specs.Checked.{Checked};
+ghost use Rattle.contact_graph.specs.RangeSteps.{Unmarked};
+ghost use Rattle.contact_graph.specs.Recorded.{capacityOf};
+ghost use Rattle.shares.specs.Layout.{sharesLength};
+ghost use Rattle.shares.specs.Shares.{startOf, totalOf, entriesStand, entriesOnce, sharesFit};
+use contact_graph::call::has_contact;
+use contact_graph::layout::LISTED_PLACE;
+use contact_graph::layout::number_at;
+use data_structures::bit_vec::get;
+use data_structures::bit_vec::set;
+use words::row::load_word;
+
+pub const MOST_WORKERS: usize = 8;
+
+pub const COUNTS_PLACE: usize = 1;
+
+pub const ENTRIES_PLACE: usize = 9;
+
+// The contacts of the workers before it.
+pub fn start_of(shares: &[u32], worker: usize) -> usize
+    requires { ⌜ (worker ≤ 8) × (9 ≤ length (now shares)) ⌝ }
+    ensures { λ r. ⌜ r ≡ startOf (now (shares .entry)) worker ⌝ }
+{
+    let mut total = 0;
+    let mut w = 0;
+    while w < worker {
+        total += load_word(shares, COUNTS_PLACE + w) as usize;
+        w += 1;
+    }
+    total
+}
+
+// Every entry is active, and none stands twice: each is marked, and none is marked already.
+fn entries_fit(shares: &[u32], graph: &[u32], total: usize, marks: &mut [u64]) -> bool
+    requires { ⌜ Checked (now graph) × (total ≡ totalOf (now shares)) × (9 + total ≤ length (now shares)) × (length (now marks) ≡ 4) × Unmarked (now marks) ⌝ }
+    ensures { λ r. ⌜ r ≡ (entriesStand (now (shares .entry)) (now (graph .entry)) && entriesOnce (now (shares .entry))) ⌝ }
+{
+    let mut k = 0;
+    while k < total {
+        let id = load_word(shares, ENTRIES_PLACE + k);
+        if !has_contact(graph, id) {
+            return false;
+        }
+        if get(marks, id as usize) {
+            return false;
+        }
+        set(marks, id as usize);
+        k += 1;
+    }
+    true
+}
+
+pub fn shares_fit(shares: &[u32], graph: &[u32]) -> bool
+    requires { ⌜ Checked (now graph) × (length (now shares) ≡ sharesLength (capacityOf (now graph))) ⌝ }
+    ensures { λ r. ⌜ r ≡ sharesFit (now (shares .entry)) (now (graph .entry)) ⌝ }
+{
+    let workers = number_at(shares, 0);
+    if workers == 0 {
+        return false;
+    }
+    if MOST_WORKERS < workers {
+        return false;
+    }
+    let total = start_of(shares, workers);
+    if number_at(graph, 0) < total {
+        return false;
+    }
+    let mut marks = [0u64; 4];
+    if !entries_fit(shares, graph, total, &mut marks) {
+        return false;
+    }
+    total == number_at(graph, LISTED_PLACE)
+}

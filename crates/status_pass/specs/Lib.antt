@@ -1,0 +1,3 @@
+pub mod Verdicts
+pub mod Settled
+pub mod VerdictLaws

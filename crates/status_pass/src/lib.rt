@@ -1,0 +1,3 @@
+// The status pass over the contacts whose status bit is set. From `process_status_changes` of avian's narrow_phase/system_param.rs.
+pub mod settle;
+pub mod verdict;

@@ -1,0 +1,43 @@
+// Which case of the status pass a contact meets: the first that holds.
+ghost use mathlib.Core.Path.{_≡_};
+ghost use lib.ListN.{length};
+ghost use Rattle.contact_records.specs.Layout.{contactSize};
+ghost use Rattle.status_pass.specs.Verdicts.{VerdictIs};
+use contact_records::state::load_flags;
+use words::row::load_word;
+
+pub enum Verdict {
+    // Disjoint: the contact is removed.
+    Vanishes,
+    Starts,
+    Stops,
+    // Touching, and it started to generate constraints.
+    Generates,
+    // Touching and generating, and its number of manifolds changed.
+    Recounts,
+    Stands,
+}
+
+pub fn verdict_of(words: &[u32]) -> Verdict
+    requires { ⌜ length (now words) ≡ contactSize ⌝ }
+    ensures { λ r. ⌜ VerdictIs (now (words .entry)) r ⌝ }
+{
+    let f = load_flags(words, 9);
+    let change = load_word(words, 18);
+    if f.disjoint_aabb {
+        return Verdict::Vanishes;
+    }
+    if f.started_touching {
+        return Verdict::Starts;
+    }
+    if f.stopped_touching {
+        return Verdict::Stops;
+    }
+    if f.touching & f.started_generating_constraints {
+        return Verdict::Generates;
+    }
+    if f.touching & (f.generate_constraints & (change != 0)) {
+        return Verdict::Recounts;
+    }
+    Verdict::Stands
+}
