@@ -9,17 +9,17 @@ use mathlib.Core.Option.{none, some}
 use lib.Dec.{eqb, lit≤}
 use lib.Ieee.{binary32, ofBits}
 use lib.ListN.{length}
-use Rattle.rows.specs.Rows.{put, Apart}
+use Rattle.rows.specs.Rows.{part, put, Apart}
 use Rattle.rows.specs.Slots.{upto}
 use Rattle.words.specs.Words.{wordAt, vec3At, quatAt}
 use Rattle.contact_records.specs.Counts.{Counted}
-use Rattle.contact_records.specs.Held.{Same, same-in, word-same, first-same, same-put}
+use Rattle.contact_records.specs.Held.{Same, same-in, word-same, first-same, same-put, part-same}
 use Rattle.contact_records.specs.Lists.{map-upto-same}
 use Rattle.contact_records.specs.Layout as place
 use Rattle.contact_records.specs.Recorded.{optionalAt, intOf, pointAt, pointsAt, manifoldAt, manifoldsAt, cacheAt, flagsAt, namesAt, edgeAt, pairAt}
 
 -- place k of an array of structs
-row-in : (n size count k : ℕ) → k < n → n ≤ count → k * size + size ≤ count * size
+pub row-in : (n size count k : ℕ) → k < n → n ≤ count → k * size + size ≤ count * size
 row-in n size count k h l = let m : suc k * size ≤ count * size = mul-le-mul-right size (let z : suc k ≤ count = omega arith in z) in omega (arith, suc-mul k size)
 
 module _ {xs ys : List ℕ} where
@@ -138,7 +138,10 @@ module _ {xs ys : List ℕ} where
         cache = cache-same (same-in s 20 16 (lit≤ tt)) i;
       }
 
--- ---- a store apart from a record
+-- ---- a record by itself, and a store apart from it
+
+pub pair-part : (g : List ℕ) (at id : ℕ) → Counted g (at + place.manifoldsPlace) → pairAt (part g at place.contactSize) 0 id ≡ pairAt g at id
+pair-part g at id c = pair-same id c (part-same g at place.contactSize)
 
 pub pair-apart : (g : List ℕ) (b : ℕ) (ws : List ℕ) (at id : ℕ) → Counted g (at + place.manifoldsPlace) → Apart at place.contactSize b (length ws) → pairAt (put g b ws) at id ≡ pairAt g at id
 pair-apart g b ws at id c s = pair-same id c (same-put g b ws at 523 s)

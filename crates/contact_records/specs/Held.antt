@@ -1,15 +1,15 @@
 -- Words at a place of a row: that a row holds them there, and that two rows have the same. Assumes nothing.
 use mathlib.Core.Path.{_≡_, sym, ap, _∙_, subst}
 use Prim.Native.Nat.{ℕ, zero, suc, _+_, _*_, _≤_, _<_}
-use native.Mathlib.Nat.{add-zero, add-assoc, suc-mul, zero-mul, not-suc-le-zero, le-of-suc-le-suc}
+use native.Mathlib.Nat.{add-zero, zero-add, add-assoc, suc-mul, zero-mul, not-suc-le-zero, le-of-suc-le-suc}
 use native.Mathlib.Omega.{arith}
 use mathlib.Core.Logic.{_⊎_, inl, inr}
 use mathlib.Core.List.{List, [], _∷_, _++_}
 use lib.Dec.{T, ltb, ltb→lt}
 use lib.ListN.{length, getD, length-append, List·getD-append}
 use lib.Seq.{getD-append-add}
-use Rattle.rows.specs.Rows.{put, each, Apart}
-use Rattle.rows.specs.Laws.{getD-put, getD-put-apart}
+use Rattle.rows.specs.Rows.{part, put, each, Apart}
+use Rattle.rows.specs.Laws.{getD-put, getD-part, getD-put-apart}
 use Rattle.words.specs.Words.{wordAt}
 
 -- from that place the row has these words
@@ -72,3 +72,10 @@ same-put xs b ws at n s = record { each = λ i h. getD-put-apart xs b ws (at + i
     go : (i : ℕ) → i < n → Apart at n b (length ws) → (at + i < b) ⊎ (b + length ws ≤ at + i)
     go i h (inl l) = inl (omega arith)
     go i h (inr l) = inr (omega arith)
+
+-- a part of a row has the row's words
+pub part-same : (xs : List ℕ) (at n : ℕ) → Same xs at (part xs at n) 0 n
+part-same xs at n = record { each = λ i l. ap (wordAt (part xs at n)) (zero-add i) ∙ getD-part xs at n i 0 l }
+
+pub same-back : {xs ys : List ℕ} {a b n : ℕ} → Same xs a ys b n → Same ys b xs a n
+same-back s = record { each = λ i l. sym (s .each i l) }

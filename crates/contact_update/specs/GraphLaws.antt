@@ -23,10 +23,10 @@ use Rattle.collider.specs.Recorded.{colliderAt, bodyAt}
 use Rattle.proposals.specs.Layout as proposal-place
 use Rattle.proposals.specs.Range.{Proposed}
 use Rattle.proposals.specs.Recorded.{proposedPointAt, proposedPointsAt, proposedManifoldAt, proposalAt, hookAt}
-use Rattle.contact_records.specs.Apart.{vec3-same, pair-same}
+use Rattle.contact_records.specs.Apart.{row-in, vec3-same, pair-same, pair-part}
 use Rattle.contact_records.specs.Counts.{Counted}
 use Rattle.contact_records.specs.Fit.{FitPair}
-use Rattle.contact_records.specs.Held.{Same, same-in, word-same, first-same}
+use Rattle.contact_records.specs.Held.{Same, same-in, word-same, first-same, part-same, same-back}
 use Rattle.contact_records.specs.Layout as record-place
 use Rattle.contact_records.specs.Lists.{map-upto-same}
 use Rattle.contact_records.specs.Recorded.{namesAt, pairAt}
@@ -45,18 +45,7 @@ use Rattle.contact_update.specs.After.{recordUpdated, recordAfter, propo
 use Rattle.contact_update.specs.Plain.{pairUpdated, plainUpdate}
 use Rattle.contact_update.specs.RecordLaws.{record-length, record-names, record-pair, record-fits}
 
--- ---- a part of a row has the row's words
-pub part-same : (xs : List ℕ) (at n : ℕ) → Same xs at (part xs at n) 0 n
-part-same xs at n = record { each = λ i l. ap (wordAt (part xs at n)) (zero-add i) ∙ getD-part xs at n i 0 l }
-
-pub same-back : {xs ys : List ℕ} {a b n : ℕ} → Same xs a ys b n → Same ys b xs a n
-same-back s = record { each = λ i l. sym (s .each i l) }
-
 -- ---- a proposal is what its words say
--- place k of an array of structs
-row-in : (n size count k : ℕ) → k < n → n ≤ count → k * size + size ≤ count * size
-row-in n size count k h l = let m : suc k * size ≤ count * size = mul-le-mul-right size (let z : suc k ≤ count = omega arith in z) in omega (arith, suc-mul k size)
-
 module _ {xs ys : List ℕ} where
   proposed-point-same : {a b : ℕ} → Same xs a ys b 12 → proposedPointAt ys b ≡ proposedPointAt xs a
   unfolding proposedPointAt
@@ -104,9 +93,6 @@ module _ (proposals : List ℕ) (id : ℕ) where
 
   pub hook-part : hookAt (proposalOf proposals id) 0 ≡ hookAt proposals (id * proposal-place.proposalSize)
   hook-part = sym (hook-same row-same)
-
-pub pair-part : (g : List ℕ) (at id : ℕ) → Counted g (at + record-place.manifoldsPlace) → pairAt (part g at record-place.contactSize) 0 id ≡ pairAt g at id
-pair-part g at id c = pair-same id c (part-same g at record-place.contactSize)
 
 module _ (s : Settings) (colliders bodies proposals : List ℕ) where
   -- what an update does to the record of a contact

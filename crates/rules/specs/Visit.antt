@@ -33,7 +33,7 @@ verdict p =
     pick (p .flags .disjointAabb) (p .flags .startedTouching) (p .flags .stoppedTouching) (p .flags .touching && p .flags .startedGenerating)
     (p .flags .touching && (p .flags .generateConstraints && nonZero (p .countChange)))
 
--- what becomes of the pair, and what is said
+-- what becomes of the pair, which changes are said, and which events
 abbrev pub next : Verdict → Pair → Option Pair
 next vanishes p = none
 next starts p = some (withMarks p true (marks (p .flags) false (p .flags .stoppedTouching) false) (p .countChange))
@@ -49,6 +49,14 @@ say stops p = stopIf (p .flags .generateConstraints) (p .names)
 say generates p = start (p .names .id) ∷ []
 say recounts p = countOf (p .names) (p .countChange)
 say stands p = []
+
+abbrev pub hear : Verdict → Pair → List Event
+hear vanishes p = eventIf (p .edge .touching && p .edge .contactEvents) (ended (p .names))
+hear starts p = eventIf (p .edge .contactEvents) (started (p .names))
+hear stops p = eventIf (p .edge .contactEvents) (ended (p .names))
+hear generates p = []
+hear recounts p = []
+hear stands p = []
 
 abbrev pub becoming : Option Pair → Option Pair
 becoming none = none
@@ -120,16 +128,14 @@ module _ (k : ℕ) (xs : List Pair) (p : Pair) (ys : List Pair) (i : p .names .i
 
 -- ---- the visit, by its verdict
 
-abbrev visitAs : Pass → ℕ → Pair → Verdict → Pass
-visitAs s i p vanishes = removed s i p (eventIf (p .edge .touching && p .edge .contactEvents) (ended (p .names))) (say vanishes p)
-visitAs s i p starts =
-    written s i (withMarks p true (marks (p .flags) false (p .flags .stoppedTouching) false) (p .countChange)) (eventIf (p .edge .contactEvents) (started (p .names))) (say starts p)
+abbrev pub visitAs : Pass → ℕ → Pair → Verdict → Pass
+visitAs s i p vanishes = removed s i p (hear vanishes p) (say vanishes p)
+visitAs s i p starts = written s i (withMarks p true (marks (p .flags) false (p .flags .stoppedTouching) false) (p .countChange)) (hear starts p) (say starts p)
 visitAs s i p stops =
-    written s i (withMarks p false (marks (p .flags) (p .flags .startedTouching) false (p .flags .startedGenerating)) (p .countChange))
-    (eventIf (p .edge .contactEvents) (ended (p .names))) (say stops p)
+    written s i (withMarks p false (marks (p .flags) (p .flags .startedTouching) false (p .flags .startedGenerating)) (p .countChange)) (hear stops p) (say stops p)
 visitAs s i p generates =
-    written s i (withMarks p (p .edge .touching) (marks (p .flags) (p .flags .startedTouching) (p .flags .stoppedTouching) false) (p .countChange)) [] (say generates p)
-visitAs s i p recounts = written s i (withMarks p (p .edge .touching) (p .flags) (pos 0)) [] (say recounts p)
+    written s i (withMarks p (p .edge .touching) (marks (p .flags) (p .flags .startedTouching) (p .flags .stoppedTouching) false) (p .countChange)) (hear generates p) (say generates p)
+visitAs s i p recounts = written s i (withMarks p (p .edge .touching) (p .flags) (pos 0)) (hear recounts p) (say recounts p)
 visitAs s i p stands = s
 
 choosing : {X : Type 0} (f : Verdict → X) (t u v w x : Bool) →
@@ -141,7 +147,7 @@ choosing f false false false true x = refl
 choosing f false false false false true = refl
 choosing f false false false false false = refl
 
-visitAt-as : (s : Pass) (i : ℕ) (p : Pair) → visitAt s i p ≡ visitAs s i p (verdict p)
+pub visitAt-as : (s : Pass) (i : ℕ) (p : Pair) → visitAt s i p ≡ visitAs s i p (verdict p)
 unfolding visitAt
 visitAt-as s i p =
     choosing (visitAs s i p) (p .flags .disjointAabb) (p .flags .startedTouching) (p .flags .stoppedTouching) (p .flags .touching && p .flags .startedGenerating)

@@ -1,3 +1,10 @@
 pub mod Verdicts
 pub mod Settled
+pub mod Said
+pub mod Listed
+pub mod Pass
 pub mod VerdictLaws
+pub mod ListedLaws
+pub mod SettleLaws
+pub mod PassLaws
+pub mod VisitLaws

@@ -1,0 +1,7 @@
+pub mod Step
+pub mod Accepted
+pub mod StepLaws
+pub mod ShareLaws
+pub mod TestLaws
+pub mod CodeLaws
+pub mod CallLaws

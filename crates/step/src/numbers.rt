@@ -1,0 +1,80 @@
+// Refusals 2 and 6: every number that is read is in range, and no active pair's proposal is overfull.
+ghost use mathlib.Core.Path.{_≡_};
+ghost use mathlib.Core.Bool.{true};
+ghost use Prim.Native.Nat.{_*_};
+ghost use lib.ListN.{length};
+ghost use Rattle.collider.specs.Layout.{settingsLength, collidersLength, bodiesLength};
+ghost use Rattle.contact_graph.specs.Checked.{Checked};
+ghost use Rattle.contact_graph.specs.Range.{rightLength};
+ghost use Rattle.contact_graph.specs.Recorded.{capacityOf};
+ghost use Rattle.proposals.specs.Layout.{proposalSize};
+ghost use Rattle.step.specs.Step.{hooksFit, rowsInRange, proposalsFit};
+use collider::range::bodies_fit;
+use collider::range::colliders_fit;
+use collider::range::settings_fit;
+use contact_graph::layout::LIST_PLACE;
+use contact_graph::layout::LISTED_PLACE;
+use contact_graph::layout::number_at;
+use contact_graph::range::in_range;
+use proposals::layout::PROPOSAL_SIZE;
+use proposals::proposal::hook_fits;
+use proposals::proposal::proposal_fits;
+
+// The hook's answer for each active pair is a mark.
+fn hooks_fit(proposals: &[u32], graph: &[u32]) -> bool
+    requires { ⌜ Checked (now graph) × (length (now proposals) ≡ capacityOf (now graph) * proposalSize) ⌝ }
+    ensures { λ r. ⌜ r ≡ hooksFit (now (proposals .entry)) (now (graph .entry)) ⌝ }
+{
+    let listed = number_at(graph, LISTED_PLACE);
+    let mut p = 0;
+    while p < listed {
+        let id = number_at(graph, LIST_PLACE + p);
+        if !hook_fits(proposals, id * PROPOSAL_SIZE) {
+            return false;
+        }
+        p += 1;
+    }
+    true
+}
+
+// At most 6 manifolds for each active pair, and 32 points in each.
+pub fn proposals_fit(proposals: &[u32], graph: &[u32]) -> bool
+    requires { ⌜ Checked (now graph) × (length (now proposals) ≡ capacityOf (now graph) * proposalSize) ⌝ }
+    ensures { λ r. ⌜ r ≡ proposalsFit (now (proposals .entry)) (now (graph .entry)) ⌝ }
+{
+    let listed = number_at(graph, LISTED_PLACE);
+    let mut p = 0;
+    while p < listed {
+        let id = number_at(graph, LIST_PLACE + p);
+        if !proposal_fits(proposals, id * PROPOSAL_SIZE) {
+            return false;
+        }
+        p += 1;
+    }
+    true
+}
+
+pub fn numbers_fit(
+    settings: &[u32],
+    colliders: &[u32],
+    bodies: &[u32],
+    proposals: &[u32],
+    graph: &[u32],
+) -> bool
+    requires { ⌜ (length (now settings) ≡ settingsLength) × (length (now colliders) ≡ collidersLength) × (length (now bodies) ≡ bodiesLength) × (length (now proposals) ≡ capacityOf (now graph) * proposalSize) × (rightLength (now graph) ≡ true) ⌝ }
+    ensures { λ r. ⌜ r ≡ rowsInRange (now (settings .entry)) (now (colliders .entry)) (now (bodies .entry)) (now (proposals .entry)) (now (graph .entry)) ⌝ }
+{
+    if !settings_fit(settings) {
+        return false;
+    }
+    if !colliders_fit(colliders) {
+        return false;
+    }
+    if !bodies_fit(bodies) {
+        return false;
+    }
+    if !in_range(graph) {
+        return false;
+    }
+    hooks_fit(proposals, graph)
+}

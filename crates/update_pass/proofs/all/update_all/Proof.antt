@@ -1,0 +1,137 @@
+-- `update_pass::all::update_all` meets its contract: after w workers the rows are as their contacts leave them. Assumes nothing.
+use mathlib.Core.Path.{_≡_, refl, sym, ap, subst, _∙_}
+use mathlib.Core.List.{List}
+use Prim.Native.Nat.{ℕ, _+_, _-_, _*_, _≤_, _<_}
+use native.Mathlib.Omega.{arith}
+use lib.ListN.{length}
+use Rattle.rows.specs.Rows.{put}
+use Rattle.rows.specs.Laws.{put-whole}
+use Rattle.data_structures.specs.BitVec.{blocksOf}
+use Rattle.contact_records.specs.Lists.{length-zeros}
+use Rattle.contact_records.specs.Written.{zeros}
+use Rattle.contact_graph.specs.Recorded.{capacityOf}
+use Rattle.shares.specs.Shares.{workersOf}
+use Rattle.collider.specs.Views.{plainSettings}
+use Rattle.update_pass.specs.AllLaws.{cleared-zeros, SoFar, so-far-none, own-ready, so-far-next, so-far-all, so-far-few, own-places}
+use borrow.Author.Needs.{needs}
+use Rattle.update_pass.proofs.all.update_all.Statement.{statement}
+use Rattle.update_pass.proofs.all.update_all.Tie as tie
+
+abbrev Inv-loop : tie.InvT-loop
+Inv-loop s colliders bodies proposals shares g₀ bits₀ ds₀ capacity count workers recycled₀ w₀ g bits ds recycled w =
+    (w ≤ workers) × SoFar (plainSettings s) colliders bodies proposals shares w g₀ g bits ds recycled
+    × (length g ≡ length g₀) × (length bits ≡ length bits₀) × (length ds ≡ length ds₀)
+
+abbrev μ-loop : tie.MeasureT-loop
+μ-loop s colliders bodies proposals shares g₀ bits₀ ds₀ capacity count workers recycled₀ w₀ g bits ds recycled w = workers - w
+
+number-at-requires : tie.Need-number-at-requires Inv-loop μ-loop
+number-at-requires c κs = let right = c .before .before .before .before .before .before .before .before .pre .listed .ready .checked .right in omega (arith, right .size)
+
+store-zeros-requires : tie.Need-store-zeros-requires Inv-loop μ-loop
+store-zeros-requires c κs = let d = c .before .before .before .before .before .before .before .before .before .before .before .before .before .before .before .pre .distanceWords in omega (arith, c .before .before .before .before .before .before .number-at .ensures)
+
+number-at-requires-2 : tie.Need-number-at-requires-2 Inv-loop μ-loop
+number-at-requires-2 c κs = let d = c .before .before .before .before .before .before .before .before .before .before .before .before .before .before .before .before .before .before .pre .listed .size in omega arith
+
+loop-holds : tie.Need-loop-holds Inv-loop μ-loop
+loop-holds c =
+    let e = c .before .before .before .before .before .before .before .before .before .before .number-at .ensures in
+    let n = c .before .before .before .before .before .before .before .before .before .before .before .before .before .before .before .before .before .before .before .pre .distanceWords in (
+      search needs,
+      so-far-none _ _ _ _ _ (c .before .before .before .before .before .before .before .before .before .before .before .before .before .before .before .before .before .before .before .pre .listed) (c .before .before .before .before .before .before .before .clear .ensures ∙ cleared-zeros (c .before .before .before .before .before .before .before .before .before .before .before .before .before .before .before .before .before .before .before .args .bits .now) ∙ ap zeros (c .before .before .before .before .before .before .before .before .before .before .before .before .before .before .before .before .before .before .before .pre .bitWords))
+          (c .before .before .before .store-zeros .ensures ∙ ap (λ (k : ℕ). put (c .before .before .before .before .before .before .before .before .before .before .before .before .before .before .before .before .before .before .before .args .distances .now) 0 (zeros k)) e ∙ put-whole (c .before .before .before .before .before .before .before .before .before .before .before .before .before .before .before .before .before .before .before .args .distances .now) (zeros _) (length-zeros _ ∙ sym n)),
+      search needs,
+      search needs,
+      search needs,
+    )
+
+mul-from : tie.Need-mul-from Inv-loop μ-loop
+mul-from c =
+    let l = subst (λ (n : ℕ). c .before .loop .w < n) (c .before .before .number-at2 .ensures) (c .loop-test .taken) in
+    let o = own-places _ _ _ _ _ (c .before .before .before .before .before .before .before .before .before .before .before .before .before .before .before .before .before .before .before .before .before .pre .listed) (c .before .loop .w) l in
+    let n : c .before .before .before .before .before .before .before .before .before .before .before .blocks2 .result ≡ blocksOf (capacityOf (c .before .before .before .before .before .before .before .before .before .before .before .before .before .before .before .before .before .before .before .before .before .args .graph .now)) = c .before .before .before .before .before .before .before .before .before .before .before .blocks2 .ensures ∙ ap blocksOf (c .before .before .before .before .before .before .before .before .before .before .before .before .number-at .ensures) in
+    let p = ap (λ (k : ℕ). c .before .loop .w * k) n in
+    omega (arith, o .few, o .room, c .before .before .before .before .before .before .before .before .before .before .before .before .before .before .before .before .before .before .before .before .before .pre .bitWords, c .before .loop .inv .3)
+
+add-to : tie.Need-add-to Inv-loop μ-loop
+add-to c =
+    let l = subst (λ (n : ℕ). c .before .loop .w < n) (c .before .before .number-at2 .ensures) (c .loop-test .taken) in
+    let o = own-places _ _ _ _ _ (c .before .before .before .before .before .before .before .before .before .before .before .before .before .before .before .before .before .before .before .before .before .pre .listed) (c .before .loop .w) l in
+    let n : c .before .before .before .before .before .before .before .before .before .before .before .blocks2 .result ≡ blocksOf (capacityOf (c .before .before .before .before .before .before .before .before .before .before .before .before .before .before .before .before .before .before .before .before .before .args .graph .now)) = c .before .before .before .before .before .before .before .before .before .before .before .blocks2 .ensures ∙ ap blocksOf (c .before .before .before .before .before .before .before .before .before .before .before .before .number-at .ensures) in
+    let p = ap (λ (k : ℕ). c .before .loop .w * k) n in
+    omega (arith, o .few, o .room, c .before .before .before .before .before .before .before .before .before .before .before .before .before .before .before .before .before .before .before .before .before .pre .bitWords, c .before .loop .inv .3)
+
+mul-own : tie.Need-mul-own Inv-loop μ-loop
+mul-own c =
+    let l = subst (λ (n : ℕ). c .before .loop .w < n) (c .before .before .number-at2 .ensures) (c .loop-test .taken) in
+    let o = own-places _ _ _ _ _ (c .before .before .before .before .before .before .before .before .before .before .before .before .before .before .before .before .before .before .before .before .before .pre .listed) (c .before .loop .w) l in
+    let n : c .before .before .before .before .before .before .before .before .before .before .before .blocks2 .result ≡ blocksOf (capacityOf (c .before .before .before .before .before .before .before .before .before .before .before .before .before .before .before .before .before .before .before .before .before .args .graph .now)) = c .before .before .before .before .before .before .before .before .before .before .before .blocks2 .ensures ∙ ap blocksOf (c .before .before .before .before .before .before .before .before .before .before .before .before .number-at .ensures) in
+    let p = ap (λ (k : ℕ). c .before .loop .w * k) n in
+    omega (arith, o .few, o .room, c .before .before .before .before .before .before .before .before .before .before .before .before .before .before .before .before .before .before .before .before .before .pre .bitWords, c .before .loop .inv .3)
+
+sub-own : tie.Need-sub-own Inv-loop μ-loop
+sub-own c =
+    let l = subst (λ (n : ℕ). c .before .loop .w < n) (c .before .before .number-at2 .ensures) (c .loop-test .taken) in
+    let o = own-places _ _ _ _ _ (c .before .before .before .before .before .before .before .before .before .before .before .before .before .before .before .before .before .before .before .before .before .pre .listed) (c .before .loop .w) l in
+    let n : c .before .before .before .before .before .before .before .before .before .before .before .blocks2 .result ≡ blocksOf (capacityOf (c .before .before .before .before .before .before .before .before .before .before .before .before .before .before .before .before .before .before .before .before .before .args .graph .now)) = c .before .before .before .before .before .before .before .before .before .before .before .blocks2 .ensures ∙ ap blocksOf (c .before .before .before .before .before .before .before .before .before .before .before .before .number-at .ensures) in
+    let p = ap (λ (k : ℕ). c .before .loop .w * k) n in
+    omega (arith, o .few, o .room, c .before .before .before .before .before .before .before .before .before .before .before .before .before .before .before .before .before .before .before .before .before .pre .bitWords, c .before .loop .inv .3)
+
+part-own-start : tie.Need-part-own-start Inv-loop μ-loop
+part-own-start c =
+    let l = subst (λ (n : ℕ). c .before .loop .w < n) (c .before .before .number-at2 .ensures) (c .loop-test .taken) in
+    let o = own-places _ _ _ _ _ (c .before .before .before .before .before .before .before .before .before .before .before .before .before .before .before .before .before .before .before .before .before .pre .listed) (c .before .loop .w) l in
+    let n : c .before .before .before .before .before .before .before .before .before .before .before .blocks2 .result ≡ blocksOf (capacityOf (c .before .before .before .before .before .before .before .before .before .before .before .before .before .before .before .before .before .before .before .before .before .args .graph .now)) = c .before .before .before .before .before .before .before .before .before .before .before .blocks2 .ensures ∙ ap blocksOf (c .before .before .before .before .before .before .before .before .before .before .before .before .number-at .ensures) in
+    let p = ap (λ (k : ℕ). c .before .loop .w * k) n in
+    omega (arith, o .few, o .room, c .before .before .before .before .before .before .before .before .before .before .before .before .before .before .before .before .before .before .before .before .before .pre .bitWords, c .before .loop .inv .3)
+
+part-own-end : tie.Need-part-own-end Inv-loop μ-loop
+part-own-end c =
+    let l = subst (λ (n : ℕ). c .before .loop .w < n) (c .before .before .number-at2 .ensures) (c .loop-test .taken) in
+    let o = own-places _ _ _ _ _ (c .before .before .before .before .before .before .before .before .before .before .before .before .before .before .before .before .before .before .before .before .before .pre .listed) (c .before .loop .w) l in
+    let n : c .before .before .before .before .before .before .before .before .before .before .before .blocks2 .result ≡ blocksOf (capacityOf (c .before .before .before .before .before .before .before .before .before .before .before .before .before .before .before .before .before .before .before .before .before .args .graph .now)) = c .before .before .before .before .before .before .before .before .before .before .before .blocks2 .ensures ∙ ap blocksOf (c .before .before .before .before .before .before .before .before .before .before .before .before .number-at .ensures) in
+    let p = ap (λ (k : ℕ). c .before .loop .w * k) n in
+    omega (arith, o .few, o .room, c .before .before .before .before .before .before .before .before .before .before .before .before .before .before .before .before .before .before .before .before .before .pre .bitWords, c .before .loop .inv .3)
+
+update-share-requires : tie.Need-update-share-requires Inv-loop μ-loop
+update-share-requires c κs =
+    let l = subst (λ (n : ℕ). c .before .before .before .before .loop .w < n) (c .before .before .before .before .before .number-at2 .ensures) (c .before .before .before .loop-test .taken) in
+    let n : c .before .before .before .before .before .before .before .before .before .before .before .before .before .before .blocks2 .result ≡ blocksOf (capacityOf (c .before .before .before .before .before .before .before .before .before .before .before .before .before .before .before .before .before .before .before .before .before .before .before .before .args .graph .now)) = c .before .before .before .before .before .before .before .before .before .before .before .before .before .before .blocks2 .ensures ∙ ap blocksOf (c .before .before .before .before .before .before .before .before .before .before .before .before .before .before .before .number-at .ensures) in
+    let from = c .before .before .before .before .loop .w * c .before .before .before .before .before .before .before .before .before .before .before .before .before .before .blocks2 .result in
+    let p : from ≡ c .before .before .before .before .loop .w * blocksOf (capacityOf (c .before .before .before .before .before .before .before .before .before .before .before .before .before .before .before .before .before .before .before .before .before .before .before .before .args .graph .now)) = ap (λ (k : ℕ). c .before .before .before .before .loop .w * k) n in
+    let q : from + c .before .before .before .before .before .before .before .before .before .before .before .before .before .before .blocks2 .result - from ≡ blocksOf (capacityOf (c .before .before .before .before .before .before .before .before .before .before .before .before .before .before .before .before .before .before .before .before .before .before .before .before .args .graph .now)) = omega arith in
+    own-ready _ _ _ _ _ (c .before .before .before .before .before .before .before .before .before .before .before .before .before .before .before .before .before .before .before .before .before .before .before .before .pre .listed) (c .before .before .before .before .loop .w) l (c .before .before .before .before .loop .inv .1) p q
+
+add-recycled : tie.Need-add-recycled Inv-loop μ-loop
+add-recycled c =
+    let l = subst (λ (n : ℕ). c .before .before .before .before .before .before .before .before .before .before .before .loop .w < n) (c .before .before .before .before .before .before .before .before .before .before .before .before .number-at2 .ensures) (c .before .before .before .before .before .before .before .before .before .before .loop-test .taken) in
+    let n : c .before .before .before .before .before .before .before .before .before .before .before .before .before .before .before .before .before .before .before .before .before .blocks2 .result ≡ blocksOf (capacityOf (c .before .before .before .before .before .before .before .before .before .before .before .before .before .before .before .before .before .before .before .before .before .before .before .before .before .before .before .before .before .before .before .args .graph .now)) = c .before .before .before .before .before .before .before .before .before .before .before .before .before .before .before .before .before .before .before .before .before .blocks2 .ensures ∙ ap blocksOf (c .before .before .before .before .before .before .before .before .before .before .before .before .before .before .before .before .before .before .before .before .before .before .number-at .ensures) in
+    let from = c .before .before .before .before .before .before .before .before .before .before .before .loop .w * c .before .before .before .before .before .before .before .before .before .before .before .before .before .before .before .before .before .before .before .before .before .blocks2 .result in
+    let p : from ≡ c .before .before .before .before .before .before .before .before .before .before .before .loop .w * blocksOf (capacityOf (c .before .before .before .before .before .before .before .before .before .before .before .before .before .before .before .before .before .before .before .before .before .before .before .before .before .before .before .before .before .before .before .args .graph .now)) = ap (λ (k : ℕ). c .before .before .before .before .before .before .before .before .before .before .before .loop .w * k) n in
+    let q : from + c .before .before .before .before .before .before .before .before .before .before .before .before .before .before .before .before .before .before .before .before .before .blocks2 .result - from ≡ blocksOf (capacityOf (c .before .before .before .before .before .before .before .before .before .before .before .before .before .before .before .before .before .before .before .before .before .before .before .before .before .before .before .before .before .before .before .args .graph .now)) = omega arith in
+    let m = c .before .before .before .before .before .before .before .before .before .before .before .before .before .before .before .before .before .before .before .before .before .before .before .before .before .before .before .before .before .before .before .pre .listed .ready .checked .right .most in
+    let z : c .before .before .before .before .before .before .before .before .before .before .before .loop .w + 1 ≤ workersOf (c .before .before .before .before .before .before .before .before .before .before .before .before .before .before .before .before .before .before .before .before .before .before .before .before .before .before .before .before .before .before .before .args .shares .now) = omega arith in
+    omega (arith, so-far-few _ _ _ _ _ (c .before .before .before .before .before .before .before .before .before .before .before .before .before .before .before .before .before .before .before .before .before .before .before .before .before .before .before .before .before .before .before .pre .listed) (c .before .before .before .before .before .before .before .before .before .before .before .loop .w + 1) z (so-far-next _ _ _ _ _ (c .before .before .before .before .before .before .before .before .before .before .before .before .before .before .before .before .before .before .before .before .before .before .before .before .before .before .before .before .before .before .before .pre .listed) (c .before .before .before .before .before .before .before .before .before .before .before .loop .w) l (c .before .before .before .before .before .before .before .before .before .before .before .loop .inv .1) p q (c .before .before .before .before .before .before .update-share .ensures)))
+
+loop-again : tie.Need-loop-again Inv-loop μ-loop
+loop-again c =
+    let l = subst (λ (n : ℕ). c .before .before .before .before .before .before .before .before .before .before .before .loop .w < n) (c .before .before .before .before .before .before .before .before .before .before .before .before .number-at2 .ensures) (c .before .before .before .before .before .before .before .before .before .before .loop-test .taken) in
+    let n : c .before .before .before .before .before .before .before .before .before .before .before .before .before .before .before .before .before .before .before .before .before .blocks2 .result ≡ blocksOf (capacityOf (c .before .before .before .before .before .before .before .before .before .before .before .before .before .before .before .before .before .before .before .before .before .before .before .before .before .before .before .before .before .before .before .args .graph .now)) = c .before .before .before .before .before .before .before .before .before .before .before .before .before .before .before .before .before .before .before .before .before .blocks2 .ensures ∙ ap blocksOf (c .before .before .before .before .before .before .before .before .before .before .before .before .before .before .before .before .before .before .before .before .before .before .number-at .ensures) in
+    let from = c .before .before .before .before .before .before .before .before .before .before .before .loop .w * c .before .before .before .before .before .before .before .before .before .before .before .before .before .before .before .before .before .before .before .before .before .blocks2 .result in
+    let p : from ≡ c .before .before .before .before .before .before .before .before .before .before .before .loop .w * blocksOf (capacityOf (c .before .before .before .before .before .before .before .before .before .before .before .before .before .before .before .before .before .before .before .before .before .before .before .before .before .before .before .before .before .before .before .args .graph .now)) = ap (λ (k : ℕ). c .before .before .before .before .before .before .before .before .before .before .before .loop .w * k) n in
+    let q : from + c .before .before .before .before .before .before .before .before .before .before .before .before .before .before .before .before .before .before .before .before .before .blocks2 .result - from ≡ blocksOf (capacityOf (c .before .before .before .before .before .before .before .before .before .before .before .before .before .before .before .before .before .before .before .before .before .before .before .before .before .before .before .before .before .before .before .args .graph .now)) = omega arith in (
+      search needs,
+      so-far-next _ _ _ _ _ (c .before .before .before .before .before .before .before .before .before .before .before .before .before .before .before .before .before .before .before .before .before .before .before .before .before .before .before .before .before .before .before .pre .listed) (c .before .before .before .before .before .before .before .before .before .before .before .loop .w) l (c .before .before .before .before .before .before .before .before .before .before .before .loop .inv .1) p q (c .before .before .before .before .before .before .update-share .ensures),
+      search needs,
+      search needs,
+      search needs,
+    )
+
+returns : tie.Need-returns Inv-loop μ-loop
+returns c =
+    let e : c .before .loop .w ≡ c .before .before .number-at2 .result = search needs in
+    so-far-all _ _ _ _ _ (c .before .before .before .before .before .before .before .before .before .before .before .before .before .before .before .before .before .before .before .before .before .pre .listed) (c .before .loop .w) (e ∙ c .before .before .number-at2 .ensures) (c .before .loop .inv .1)
+
+pub update-all-spec : {M : Type 1} → statement M
+update-all-spec = tie.close (tie.spec Inv-loop μ-loop number-at-requires (search needs) (search needs) store-zeros-requires number-at-requires-2 loop-holds mul-from add-to mul-own sub-own part-own-start part-own-end update-share-requires add-recycled (search needs) (search needs) loop-again (search needs) (search needs) (search needs) returns)

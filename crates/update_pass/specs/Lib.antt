@@ -1,0 +1,9 @@
+pub mod Shared
+pub mod ListsLaws
+pub mod BitsLaws
+pub mod UpdatedAll
+pub mod Means
+pub mod Share
+pub mod ShareLaws
+pub mod AllLaws
+pub mod JoinLaws
