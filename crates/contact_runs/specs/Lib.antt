@@ -1,3 +1,10 @@
 pub mod Solver
 pub mod Refusals
 pub mod Claim
+pub mod ImpulsesMean
+pub mod RefusalLaws
+pub mod RunLaws
+pub mod AlikeRuns
+pub mod ReplayLaws
+pub mod OrderLaws
+pub mod Demand

@@ -84,10 +84,12 @@ pub fn step(
     if !numbers_fit(settings, colliders, bodies, proposals, graph) {
         return StepAnswer::Refused(Refusal::OutOfRange);
     }
-    if !proposals_fit(proposals, graph) {
+    let overfull = !proposals_fit(proposals, graph);
+    let misshared = !shares_fit(shares, graph);
+    if overfull {
         return StepAnswer::Refused(Refusal::ProposalTooLarge);
     }
-    if !shares_fit(shares, graph) {
+    if misshared {
         return StepAnswer::Refused(Refusal::InvalidShares);
     }
     let report = step_accepted(

@@ -9,10 +9,10 @@ use mathlib.Core.Bool.{Bool, true, cond}
 use mathlib.Core.List.{List, [], _∷_, _++_, map, append-nil, append-assoc}
 use borrow.Author.Tests.{lt-ltb}
 use lib.ListN.{length, getD, take, drop, length-append}
-use lib.Seq.{take-append-seam, drop-append-seam, drop-append-add}
+use lib.Seq.{length-take-le, take-append-seam, drop-append-seam, drop-append-add}
 use Rattle.rows.specs.Rows.{put}
 use Rattle.rows.specs.Slots.{upto}
-use Rattle.rows.specs.Laws.{put-lent}
+use Rattle.rows.specs.Laws.{put-lent, put-whole}
 use Rattle.rules.specs.Inputs.{Settings}
 use Rattle.rules.specs.Update.{isRecycled, Updated}
 use Rattle.words.specs.Words.{floatWord}
@@ -71,6 +71,13 @@ pub cleared-zeros : (xs : List ℕ) → cleared xs ≡ zeros (length xs)
 unfolding cleared zeros
 cleared-zeros [] = refl
 cleared-zeros (x ∷ xs) = ap (λ (r : List ℕ). 0 ∷ r) (cleared-zeros xs)
+
+-- all the words, lent on and cleared
+pub cleared-parts : (xs : List ℕ) {ys : List ℕ} (n : ℕ) → n ≡ length xs → ys ≡ cleared (take n (drop 0 xs)) → take 0 xs ++ (ys ++ drop n (drop 0 xs)) ≡ zeros n
+cleared-parts xs {ys} n e p =
+    let z : ys ≡ zeros n = p ∙ cleared-zeros (take n (drop 0 xs)) ∙ ap zeros (length-take-le n xs (omega arith)) in
+    let l : length ys ≡ n = ap (λ (w : List ℕ). length w) z ∙ length-zeros n in
+    put-lent xs 0 ys n l (omega arith) ∙ put-whole xs ys (l ∙ e) ∙ z
 
 module _ (u : ℕ → Updated) (blocks : ℕ) (xs : List ℕ) where
   pub length-parts : (n : ℕ) → length (partsOf u blocks xs n) ≡ n * blocks

@@ -7,6 +7,7 @@ use contact_graph::layout::number_at;
 use contact_records::zeros::store_zeros;
 use data_structures::bit_vec::blocks;
 use data_structures::bit_vec::clear;
+use shares::range::MOST_WORKERS;
 
 // Every part is cleared first, and every distance. Answers how many contacts were recycled.
 pub fn update_all(
@@ -24,9 +25,11 @@ pub fn update_all(
 {
     let capacity = number_at(graph, 0);
     let count = blocks(capacity);
-    clear(bits);
-    store_zeros(distances, 0, capacity);
     let workers = number_at(shares, 0);
+    let end = MOST_WORKERS * count;
+    let parts = &mut bits[0..end];
+    clear(parts);
+    store_zeros(distances, 0, capacity);
     let mut recycled = 0;
     let mut w = 0;
     while w < workers {

@@ -22,28 +22,28 @@ proposals-fit-requires c κs =
 returns-3 : tie.Need-returns-3
 returns-3 c =
     step-refused _ _ _ _
-    (refused-proposals _ _ _ (passed (c .before .before .before .before .before .before .before .lengths-fit .ensures) (c .before .before .before .before .before .before .if1 .left)) (passed (c .before .before .before .before .numbers-fit .ensures) (c .before .before .before .if2 .left)) (refused (c .before .proposals-fit .ensures) (c .if3 .taken)))
+    (refused-proposals _ _ _ (passed (c .before .before .before .before .before .before .before .before .before .lengths-fit .ensures) (c .before .before .before .before .before .before .before .before .if1 .left)) (passed (c .before .before .before .before .before .before .numbers-fit .ensures) (c .before .before .before .before .before .if2 .left)) (refused (c .before .before .before .proposals-fit .ensures) (c .if3 .taken)))
 
 shares-fit-requires : tie.Need-shares-fit-requires
 shares-fit-requires c κs =
-    (numbers-checked _ _ _ (passed (c .before .before .before .before .before .before .before .before .lengths-fit .ensures) (c .before .before .before .before .before .before .before .if1 .left)) (passed (c .before .before .before .before .before .numbers-fit .ensures) (c .before .before .before .before .if2 .left)), lengths-given _ _ _ (passed (c .before .before .before .before .before .before .before .before .lengths-fit .ensures) (c .before .before .before .before .before .before .before .if1 .left)) .shares)
+    (numbers-checked _ _ _ (passed (c .before .before .before .before .before .before .before .lengths-fit .ensures) (c .before .before .before .before .before .before .if1 .left)) (passed (c .before .before .before .before .numbers-fit .ensures) (c .before .before .before .if2 .left)), lengths-given _ _ _ (passed (c .before .before .before .before .before .before .before .lengths-fit .ensures) (c .before .before .before .before .before .before .if1 .left)) .shares)
 
 returns-4 : tie.Need-returns-4
 returns-4 c =
     step-refused _ _ _ _
-    (refused-shares _ _ _ (passed (c .before .before .before .before .before .before .before .before .before .before .lengths-fit .ensures) (c .before .before .before .before .before .before .before .before .before .if1 .left)) (passed (c .before .before .before .before .before .before .before .numbers-fit .ensures) (c .before .before .before .before .before .before .if2 .left)) (passed (c .before .before .before .before .proposals-fit .ensures) (c .before .before .before .if3 .left))
-    (refused (c .before .shares-fit .ensures) (c .if4 .taken)))
+    (refused-shares _ _ _ (passed (c .before .before .before .before .before .before .before .before .before .before .lengths-fit .ensures) (c .before .before .before .before .before .before .before .before .before .if1 .left)) (passed (c .before .before .before .before .before .before .before .numbers-fit .ensures) (c .before .before .before .before .before .before .if2 .left)) (passed (c .before .before .before .before .proposals-fit .ensures) (c .before .if3 .left))
+    (refused (c .before .before .shares-fit .ensures) (c .if4 .taken)))
 
 step-accepted-requires : tie.Need-step-accepted-requires
 step-accepted-requires c κs =
-    accepted-all _ _ _ (passed (c .before .before .before .before .before .before .before .before .before .before .before .before .before .before .before .lengths-fit .ensures) (c .before .before .before .before .before .before .before .before .before .before .before .before .before .before .if1 .left)) (passed (c .before .before .before .before .before .before .before .before .before .before .before .before .numbers-fit .ensures) (c .before .before .before .before .before .before .before .before .before .before .before .if2 .left)) (passed (c .before .before .before .before .before .before .before .before .before .proposals-fit .ensures) (c .before .before .before .before .before .before .before .before .if3 .left))
-    (passed (c .before .before .before .before .before .before .shares-fit .ensures) (c .before .before .before .before .before .if4 .left))
+    accepted-all _ _ _ (passed (c .before .before .before .before .before .before .before .before .before .before .before .before .before .before .before .lengths-fit .ensures) (c .before .before .before .before .before .before .before .before .before .before .before .before .before .before .if1 .left)) (passed (c .before .before .before .before .before .before .before .before .before .before .before .before .numbers-fit .ensures) (c .before .before .before .before .before .before .before .before .before .before .before .if2 .left)) (passed (c .before .before .before .before .before .before .before .before .before .proposals-fit .ensures) (c .before .before .before .before .before .before .if3 .left))
+    (passed (c .before .before .before .before .before .before .before .shares-fit .ensures) (c .before .before .before .before .before .if4 .left))
 
 returns-5 : tie.Need-returns-5
 returns-5 c =
     step-kept _ _ _
-    (accepted-all _ _ _ (passed (c .before .before .before .before .before .before .before .before .before .before .before .before .before .before .before .before .before .before .before .before .before .before .before .before .before .before .lengths-fit .ensures) (c .before .before .before .before .before .before .before .before .before .before .before .before .before .before .before .before .before .before .before .before .before .before .before .before .before .if1 .left)) (passed (c .before .before .before .before .before .before .before .before .before .before .before .before .before .before .before .before .before .before .before .before .before .before .before .numbers-fit .ensures) (c .before .before .before .before .before .before .before .before .before .before .before .before .before .before .before .before .before .before .before .before .before .before .if2 .left)) (passed (c .before .before .before .before .before .before .before .before .before .before .before .before .before .before .before .before .before .before .before .before .proposals-fit .ensures) (c .before .before .before .before .before .before .before .before .before .before .before .before .before .before .before .before .before .before .before .if3 .left))
-    (passed (c .before .before .before .before .before .before .before .before .before .before .before .before .before .before .before .before .before .shares-fit .ensures) (c .before .before .before .before .before .before .before .before .before .before .before .before .before .before .before .before .if4 .left))) (c .before .before .before .before .before .before .before .before .before .before .step-accepted .ensures)
+    (accepted-all _ _ _ (passed (c .before .before .before .before .before .before .before .before .before .before .before .before .before .before .before .before .before .before .before .before .before .before .before .before .before .before .lengths-fit .ensures) (c .before .before .before .before .before .before .before .before .before .before .before .before .before .before .before .before .before .before .before .before .before .before .before .before .before .if1 .left)) (passed (c .before .before .before .before .before .before .before .before .before .before .before .before .before .before .before .before .before .before .before .before .before .before .before .numbers-fit .ensures) (c .before .before .before .before .before .before .before .before .before .before .before .before .before .before .before .before .before .before .before .before .before .before .if2 .left)) (passed (c .before .before .before .before .before .before .before .before .before .before .before .before .before .before .before .before .before .before .before .before .proposals-fit .ensures) (c .before .before .before .before .before .before .before .before .before .before .before .before .before .before .before .before .before .if3 .left))
+    (passed (c .before .before .before .before .before .before .before .before .before .before .before .before .before .before .before .before .before .before .shares-fit .ensures) (c .before .before .before .before .before .before .before .before .before .before .before .before .before .before .before .before .if4 .left))) (c .before .before .before .before .before .before .before .before .before .before .step-accepted .ensures)
 
 pub step-spec : {M : Type 1} → statement M
-step-spec = tie.close (tie.spec (search needs) (search needs) (search needs) (search needs) (search needs) (search needs) returns numbers-fit-requires (search needs) (search needs) (search needs) (search needs) (search needs) returns-2 proposals-fit-requires (search needs) (search needs) (search needs) (search needs) (search needs) returns-3 shares-fit-requires (search needs) (search needs) (search needs) (search needs) (search needs) returns-4 step-accepted-requires (search needs) (search needs) (search needs) (search needs) (search needs) returns-5)
+step-spec = tie.close (tie.spec (search needs) (search needs) (search needs) (search needs) (search needs) (search needs) returns numbers-fit-requires (search needs) (search needs) (search needs) (search needs) (search needs) returns-2 proposals-fit-requires shares-fit-requires (search needs) (search needs) (search needs) (search needs) (search needs) returns-3 (search needs) (search needs) (search needs) (search needs) (search needs) returns-4 step-accepted-requires (search needs) (search needs) (search needs) (search needs) (search needs) returns-5)

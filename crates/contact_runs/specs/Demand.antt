@@ -1,0 +1,74 @@
+-- The claim about whole lists of additions and steps holds. Assumes nothing.
+use Prim.Native.Nat.{ℕ, zero, suc, _≤_, _<_}
+use native.Mathlib.Omega.{arith}
+use mathlib.Core.Path.{_≡_, refl, sym, ap, subst, _∙_}
+use mathlib.Core.Bool.{Bool, true, false, cond, _&&_}
+use mathlib.Core.List.{List, map}
+use borrow.Author.Tests.{ltb-true, leb-true}
+use lib.Dec.{eqb, ltb, leb, eqb·suc-zero}
+use lib.ListN.{length}
+use Rattle.rules.specs.Graph.{Graph, emptyGraph}
+use Rattle.rules.specs.Limits.{mostContacts}
+use Rattle.rules.specs.Runs.{plainRun}
+use Rattle.contact_graph.specs.Calls.{layOutRefusal, laidOut}
+use Rattle.contact_graph.specs.Checked.{Checked}
+use Rattle.contact_graph.specs.LaidOutLaws.{laid-right, laid-in-range, laid-empty}
+use Rattle.contact_graph.specs.Layout.{graphLength}
+use Rattle.contact_graph.specs.Promises as graph
+use Rattle.contact_graph.specs.Promises.{LaidOut, layOutAnswer}
+use Rattle.contact_graph.specs.RangeLaws.{first-of, rest-of, right-length}
+use Rattle.contact_graph.specs.Recorded.{graphOf}
+use Rattle.contact_graph.specs.declared.lay_out.LayOutAnswer.{LayOutAnswer}
+use Rattle.contact_runs.specs.AlikeRuns.{run-alike}
+use Rattle.contact_runs.specs.Claim.{plainOf, AsPlain, Demand3}
+use Rattle.contact_runs.specs.OrderLaws.{order-is}
+use Rattle.contact_runs.specs.ReplayLaws.{replay-plain}
+use Rattle.contact_runs.specs.RunLaws.{run-plain}
+
+-- ---- a newly laid out graph
+-- an answer that it was done
+laid-number : (n : ℕ) → cond (eqb n 0) graph.done (graph.refused n) ≡ graph.done → n ≡ 0
+laid-number zero e = refl
+laid-number (suc n) e =
+    let f : graph.refused (suc n) ≡ graph.done = ap (λ (b : Bool). cond b graph.done (graph.refused (suc n))) (sym (eqb·suc-zero n)) ∙ e in
+    absurd (let z : _≡_ {A = ℕ} 0 1 = cc in omega arith)
+
+laid-bounds : (before : List ℕ) (capacity : ℕ) → layOutRefusal before capacity ≡ 0 → (0 < capacity) × (capacity ≤ mostContacts)
+unfolding layOutRefusal
+laid-bounds before capacity e =
+    let b = leb capacity mostContacts && eqb (length before) (graphLength capacity) in
+    let t : (ltb 0 capacity && b) ≡ true = go (ltb 0 capacity && b) e in (
+      ltb-true 0 capacity (first-of (ltb 0 capacity) b t),
+      leb-true capacity mostContacts (first-of (leb capacity mostContacts) (eqb (length before) (graphLength capacity)) (rest-of (ltb 0 capacity) b t)),
+    )
+  where
+    go : (b : Bool) → _≡_ {A = ℕ} (cond b 0 1) 0 → b ≡ true
+    go true e = refl
+    go false e = absurd (omega arith)
+
+module _ (before : List ℕ) (capacity : ℕ) (g : List ℕ) (r : LayOutAnswer) (l : LaidOut before capacity g r) (d : layOutAnswer r ≡ graph.done) where
+  number : layOutRefusal before capacity ≡ 0
+  number = laid-number (layOutRefusal before capacity) (sym (l .answer) ∙ d)
+
+  words : g ≡ laidOut capacity
+  words = l .graph ∙ ap (λ (n : ℕ). cond (eqb n 0) (laidOut capacity) before) number
+
+  pub laid-checked : Checked g
+  laid-checked =
+      let b = laid-bounds before capacity number in
+      subst Checked (sym words) (record { right = right-length (laid-right capacity (b .0) (b .1)); range = laid-in-range capacity (b .0) (b .1) })
+
+  pub laid-plain : graphOf g ≡ emptyGraph capacity
+  laid-plain = let b = laid-bounds before capacity number in ap graphOf words ∙ laid-empty capacity (b .0) (b .1)
+
+-- ---- the claim
+pub demand3 : Demand3
+demand3 =
+    record {
+      plain =
+          λ before capacity g r es os l d k. subst (λ (p : Graph). AsPlain es os (plainRun (map plainOf es) p)) (laid-plain before capacity g r l d)
+          (run-plain g (laid-checked before capacity g r l d) es os k);
+      order = order-is;
+      bytes = run-alike;
+      replay = λ before capacity g r es os l d k. replay-plain es capacity;
+    }
