@@ -8,3 +8,7 @@ pub mod AlikeRuns
 pub mod ReplayLaws
 pub mod OrderLaws
 pub mod Demand
+pub mod Example
+pub mod ProvisoLaws
+pub mod Opened
+pub mod ExampleCalls
