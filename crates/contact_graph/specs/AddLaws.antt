@@ -18,14 +18,14 @@ use Rattle.contact_records.specs.New.{newContactWords, new-contact, zeros-add}
 use Rattle.contact_records.specs.Written.{markWord, optionalWords, zeros}
 use Rattle.contact_graph.specs.Calls.{bodyFits, bodyWord, optional, requestFits, additionOf, pairStands, addRefusal, newIdOf, addedWords}
 use Rattle.contact_graph.specs.Adding.{AddedNew}
-use Rattle.contact_graph.specs.Checked.{Checked}
+use Rattle.contact_range.specs.Checked.{Checked}
 use Rattle.contact_graph.specs.IdLaws.{new-id}
 use Rattle.contact_graph.specs.Promises.{Added, added}
-use Rattle.contact_graph.specs.RangeLaws.{RightLength, Counts, counts, first-of, rest-of}
-use Rattle.contact_graph.specs.Recorded.{capacityOf, givenOf, listedCount, freeCount, contactAt}
+use Rattle.contact_range.specs.RangeLaws.{RightLength, Counts, counts, first-of, rest-of}
+use Rattle.contact_range.specs.Recorded.{capacityOf, givenOf, listedCount, freeCount, contactAt}
 use Rattle.contact_graph.specs.declared.add.AddAnswer.the-variants.{Refused}
 use Rattle.contact_graph.specs.declared.add.AddAnswer.the-variants as answers
-use Rattle.contact_graph.specs.Range.{isMark, rightLength, inRange}
+use Rattle.contact_range.specs.Range.{isMark, rightLength, inRange}
 use Rattle.contact_records.specs.Lists.{length-zeros}
 use Rattle.contact_graph.specs.declared.call.Request.{Request}
 

@@ -28,15 +28,15 @@ use Rattle.contact_records.specs.New.{new-contact, new-fits}
 use Rattle.contact_records.specs.Parts.{index-held}
 use Rattle.contact_records.specs.Recorded.{pairAt}
 use Rattle.contact_records.specs.Written.{contactWords, zeros}
-use Rattle.contact_graph.specs.Layout as place
-use Rattle.contact_graph.specs.Recorded.{capacityOf, givenOf, listedCount, freeCount, listedAt, freeAt, contactAt, graphOf}
-use Rattle.contact_graph.specs.Range.{isMark, namesFit, marksFit, manifoldsFit, contactFits, sameColliders, rightLength, inRange, stands, InRange}
-use Rattle.contact_graph.specs.RangeLaws.{RightLength, first-of, rest-of, counts, stands-at, listed-below, listed-fits}
+use Rattle.contact_range.specs.Layout as place
+use Rattle.contact_range.specs.Recorded.{capacityOf, givenOf, listedCount, freeCount, listedAt, freeAt, contactAt, graphOf}
+use Rattle.contact_range.specs.Range.{isMark, namesFit, marksFit, manifoldsFit, contactFits, sameColliders, rightLength, inRange, stands, InRange}
+use Rattle.contact_range.specs.RangeLaws.{RightLength, first-of, rest-of, counts, stands-at, listed-below, listed-fits}
 use Rattle.contact_graph.specs.IdLaws.{new-id}
 use Rattle.contact_graph.specs.Calls.{bodyFits, bodyWord, requestFits, additionOf, pairStands, addRefusal, newIdOf, addedWords}
-use Rattle.contact_graph.specs.Checked.{Checked}
+use Rattle.contact_range.specs.Checked.{Checked}
 use Rattle.contact_graph.specs.Effects.{AddEffect, add-effect}
-use Rattle.contact_graph.specs.FitsLaws.{fits-same}
+use Rattle.contact_range.specs.FitsLaws.{fits-same}
 use Rattle.contact_graph.specs.AddKeeps.{NewId, lowest, freed, add-keeps}
 use Rattle.contact_graph.specs.RemoveKeeps.{colliders-swap}
 use Rattle.contact_graph.specs.AddLaws.{request-words, add-room}

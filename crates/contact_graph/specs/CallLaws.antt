@@ -11,13 +11,13 @@ use Rattle.contact_types.specs.Refusals.{numberOf}
 use Rattle.contact_types.specs.declared.refusal.Refusal.the-variants.{WrongLength, OutOfRange, NoContact}
 use Rattle.contact_records.specs.Layout.{pairIndexPlace}
 use Rattle.contact_graph.specs.Calls.{idRefusal, placeOf, removedWords}
-use Rattle.contact_graph.specs.Checked.{Checked}
+use Rattle.contact_range.specs.Checked.{Checked}
 use Rattle.contact_graph.specs.IdLaws.{given-sum}
 use Rattle.contact_graph.specs.Promises.{Removed}
-use Rattle.contact_graph.specs.Range.{rightLength, inRange, stands}
-use Rattle.contact_graph.specs.RangeLaws.{RightLength, right-length, in-range, holds, shown, Counts, counts, standing-place, standing-below, listed-below, never-given}
-use Rattle.contact_graph.specs.RangeSteps.{Counted, ListedGiven, Standing}
-use Rattle.contact_graph.specs.Recorded.{capacityOf, givenOf, listedCount, freeCount, listedAt, contactAt}
+use Rattle.contact_range.specs.Range.{rightLength, inRange, stands}
+use Rattle.contact_range.specs.RangeLaws.{RightLength, right-length, in-range, holds, shown, Counts, counts, standing-place, standing-below, listed-below, never-given}
+use Rattle.contact_range.specs.RangeSteps.{Counted, ListedGiven, Standing}
+use Rattle.contact_range.specs.Recorded.{capacityOf, givenOf, listedCount, freeCount, listedAt, contactAt}
 use Rattle.contact_graph.specs.Removing.{GapOf}
 use Rattle.contact_graph.specs.declared.remove.Gap.{Gap}
 use Rattle.contact_graph.specs.declared.remove.RemoveAnswer.the-variants.{Done, Refused}

@@ -15,9 +15,9 @@ use Rattle.words.specs.Words.{wordAt}
 use Rattle.contact_records.specs.Layout as record-place
 use Rattle.contact_records.specs.Recorded.{namesAt, edgeAt}
 use Rattle.contact_records.specs.Written.{contactWords, zeros}
-use Rattle.contact_graph.specs.Layout as place
-use Rattle.contact_graph.specs.Recorded.{capacityOf, givenOf, listedCount, freeCount, listedAt, freeAt, contactAt}
-use Rattle.contact_graph.specs.Range.{isMark, sameColliders, rightLength, inRange, stands}
+use Rattle.contact_range.specs.Layout as place
+use Rattle.contact_range.specs.Recorded.{capacityOf, givenOf, listedCount, freeCount, listedAt, freeAt, contactAt}
+use Rattle.contact_range.specs.Range.{isMark, sameColliders, rightLength, inRange, stands}
 use Rattle.contact_graph.specs.declared.call.Request.{Request}
 use Rattle.contact_graph.specs.declared.call.ContactEdge.{ContactEdge}
 use Rattle.contact_graph.specs.declared.call.OptionalBody.the-variants as body

@@ -14,9 +14,9 @@ use Rattle.rows.specs.SlotLaws.{slots-apart, slot-fits}
 use Rattle.rows.specs.Laws.{length-put, getD-put, getD-put-apart}
 use Rattle.words.specs.Words.{wordAt}
 use Rattle.contact_records.specs.Layout.{contactSize, pairIndexPlace}
-use Rattle.contact_graph.specs.Layout as place
-use Rattle.contact_graph.specs.Recorded.{capacityOf, givenOf, listedCount, freeCount, listedAt, freeAt, contactAt}
-use Rattle.contact_graph.specs.RangeLaws.{RightLength}
+use Rattle.contact_range.specs.Layout as place
+use Rattle.contact_range.specs.Recorded.{capacityOf, givenOf, listedCount, freeCount, listedAt, freeAt, contactAt}
+use Rattle.contact_range.specs.RangeLaws.{RightLength}
 
 -- ---- where a record lies in a graph of the right length
 module _ {g : List ℕ} (r : RightLength g) where

@@ -7,10 +7,10 @@ use mathlib.Core.List.{List}
 use mathlib.Core.Logic.{_⊎_, inl, inr}
 use borrow.Author.Tests.{ltb-true, ltb-false, lt-ltb, le-ltb, eqb-true, eqb-false}
 use lib.Dec.{ltb, eqb}
-use Rattle.contact_graph.specs.Recorded.{capacityOf, givenOf, listedCount, freeCount, listedAt, freeAt}
-use Rattle.contact_graph.specs.Range.{stands, InRange}
-use Rattle.contact_graph.specs.RangeLaws.{stands-at, stands-found, free-found, listed-given, listed-once, free-given, free-below, free-once, free-not-standing, given-known, never-given}
-use Rattle.contact_graph.specs.Pigeonhole.{Has, Injective, covers, fits-below}
+use Rattle.contact_range.specs.Recorded.{capacityOf, givenOf, listedCount, freeCount, listedAt, freeAt}
+use Rattle.contact_range.specs.Range.{stands, InRange}
+use Rattle.contact_range.specs.RangeLaws.{stands-at, stands-found, free-found, listed-given, listed-once, free-given, free-below, free-once, free-not-standing, given-known, never-given}
+use Rattle.contact_range.specs.Pigeonhole.{Has, Injective, covers, fits-below}
 
 -- the listed ids, and the free ones after them
 idAt : List ℕ → ℕ → ℕ

@@ -24,12 +24,12 @@ use Rattle.contact_records.specs.Held.{Same, same-in, word-same, first-same}
 use Rattle.contact_records.specs.Layout as record-place
 use Rattle.contact_records.specs.Lists.{map-upto-same}
 use Rattle.contact_records.specs.Recorded.{intOf, pointAt, pointsAt, manifoldAt, manifoldsAt, pairAt}
-use Rattle.contact_graph.specs.Layout as place
-use Rattle.contact_graph.specs.Recorded.{capacityOf, givenOf, listedCount, freeCount, listedAt, freeAt, contactAt, graphOf}
-use Rattle.contact_graph.specs.Range.{isMark, optionalFits, stands, isFree, sameColliders, samePair}
-use Rattle.contact_graph.specs.RangeLaws.{counts, Fitting, listed-given, listed-index, listed-fits, standing-fits, free-given, free-once, free-not-standing, given-known, pair-once}
-use Rattle.contact_graph.specs.RangeShown.{EachInRange, each-in-range}
-use Rattle.contact_graph.specs.Checked.{Checked}
+use Rattle.contact_range.specs.Layout as place
+use Rattle.contact_range.specs.Recorded.{capacityOf, givenOf, listedCount, freeCount, listedAt, freeAt, contactAt, graphOf}
+use Rattle.contact_range.specs.Range.{isMark, optionalFits, stands, isFree, sameColliders, samePair}
+use Rattle.contact_range.specs.RangeLaws.{counts, Fitting, listed-given, listed-index, listed-fits, standing-fits, free-given, free-once, free-not-standing, given-known, pair-once}
+use Rattle.contact_range.specs.RangeShown.{EachInRange, each-in-range}
+use Rattle.contact_range.specs.Checked.{Checked}
 use Rattle.contact_graph.specs.Effects.{contact-after, differ, same-or-not}
 use Rattle.contact_graph.specs.AddedGraph.{right-kept, listedPair}
 use Rattle.contact_graph.specs.Impulses.{storedPointPlace, ImpulseAt, ImpulsesWritten, SameButImpulses}

@@ -9,8 +9,8 @@ use Rattle.rules.specs.Graph.{Graph}
 use Rattle.rules.specs.Stripped.{stripped}
 use Rattle.words.specs.Words.{wordAt}
 use Rattle.contact_records.specs.Layout as record-place
-use Rattle.contact_graph.specs.Recorded.{contactAt}
-use Rattle.contact_graph.specs.Range.{stands}
+use Rattle.contact_range.specs.Recorded.{contactAt}
+use Rattle.contact_range.specs.Range.{stands}
 
 -- ---- in the words
 -- where point k of manifold m begins in the record of a contact

@@ -1,12 +1,4 @@
-pub mod Layout
-pub mod Recorded
-pub mod Range
-pub mod Pigeonhole
-pub mod RangeLaws
-pub mod RangeShown
 pub mod IdLaws
-pub mod RangeSteps
-pub mod Checked
 pub mod Calls
 pub mod LookUp
 pub mod Removing
@@ -15,7 +7,6 @@ pub mod Promises
 pub mod Zeros
 pub mod LayOutLaws
 pub mod Effects
-pub mod FitsLaws
 pub mod AddKeeps
 pub mod RemoveKeeps
 pub mod LaidOutLaws

@@ -7,7 +7,7 @@ use Rattle.rules.specs.Records.{Names, EdgeFlags}
 use Rattle.words.specs.Words.{wordAt}
 use Rattle.contact_records.specs.Layout as record-place
 use Rattle.contact_records.specs.Recorded.{namesAt, edgeAt}
-use Rattle.contact_graph.specs.Recorded.{contactAt}
+use Rattle.contact_range.specs.Recorded.{contactAt}
 use Rattle.contact_graph.specs.declared.call.ContactEdge.{ContactEdge}
 use Rattle.contact_graph.specs.declared.call.OptionalBody.{OptionalBody}
 use Rattle.contact_graph.specs.declared.call.OptionalBody.the-variants as body

@@ -11,8 +11,8 @@ use Rattle.contact_records.specs.Recorded.{optionalAt, namesAt, edgeAt}
 use Rattle.contact_graph.specs.CallLaws.{id-length, id-range, id-none, id-found}
 use Rattle.contact_graph.specs.LookUp.{bodyOf, edgeValue, edgeIn, EdgeLoaded, edgeOf}
 use Rattle.contact_graph.specs.Promises.{LookedUp, found}
-use Rattle.contact_graph.specs.Range.{rightLength, inRange, stands}
-use Rattle.contact_graph.specs.Recorded.{contactAt}
+use Rattle.contact_range.specs.Range.{rightLength, inRange, stands}
+use Rattle.contact_range.specs.Recorded.{contactAt}
 use Rattle.contact_graph.specs.declared.call.ContactEdge.{ContactEdge}
 use Rattle.contact_graph.specs.declared.call.OptionalBody.{OptionalBody}
 use Rattle.contact_graph.specs.declared.look_up.LookUpAnswer.the-variants.{Found, Refused}

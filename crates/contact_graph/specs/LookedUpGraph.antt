@@ -15,11 +15,11 @@ use Rattle.rules.specs.Records.{Pair}
 use Rattle.contact_records.specs.Layout as record-place
 use Rattle.contact_records.specs.Lists.{getD-map-upto, length-map-upto}
 use Rattle.contact_records.specs.Recorded.{namesAt, edgeAt, pairAt}
-use Rattle.contact_graph.specs.Recorded.{listedCount, listedAt, contactAt, graphOf}
-use Rattle.contact_graph.specs.Range.{stands}
-use Rattle.contact_graph.specs.RangeLaws.{listed-once, stands-at}
+use Rattle.contact_range.specs.Recorded.{listedCount, listedAt, contactAt, graphOf}
+use Rattle.contact_range.specs.Range.{stands}
+use Rattle.contact_range.specs.RangeLaws.{listed-once, stands-at}
 use Rattle.contact_graph.specs.Calls.{placeOf}
-use Rattle.contact_graph.specs.Checked.{Checked}
+use Rattle.contact_range.specs.Checked.{Checked}
 use Rattle.contact_graph.specs.LookUp.{Edge, edgeIn, edgeOf}
 use Rattle.contact_graph.specs.AddedGraph.{listedPair}
 use Rattle.contact_graph.specs.RemovedGraph.{pair-id, at-place, here, named}

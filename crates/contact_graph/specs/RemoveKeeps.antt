@@ -11,12 +11,12 @@ use lib.Dec.{T, eqb}
 use Rattle.rules.specs.NumberLaws.{every-all}
 use Rattle.words.specs.Words.{wordAt}
 use Rattle.contact_records.specs.Layout as record-place
-use Rattle.contact_graph.specs.Recorded.{capacityOf, givenOf, listedCount, freeCount, listedAt, freeAt, contactAt}
-use Rattle.contact_graph.specs.Range.{contactFits, countsFit, listedGiven, namesBack, contactsFit, freeGiven, freeOnce, stands, isFree, freeApart, givenKnown, sameColliders, samePair, pairsOnce, InRange}
-use Rattle.contact_graph.specs.RangeLaws.{holds, shown, Counts, counts, indexAt, back-at, fits-at, stands-at, stands-found, free-at, free-found, listed-given, listed-below, listed-index, listed-once, standing-given, free-given, free-not-standing, free-once, given-known, pair-once}
+use Rattle.contact_range.specs.Recorded.{capacityOf, givenOf, listedCount, freeCount, listedAt, freeAt, contactAt}
+use Rattle.contact_range.specs.Range.{contactFits, countsFit, listedGiven, namesBack, contactsFit, freeGiven, freeOnce, stands, isFree, freeApart, givenKnown, sameColliders, samePair, pairsOnce, InRange}
+use Rattle.contact_range.specs.RangeLaws.{holds, shown, Counts, counts, indexAt, back-at, fits-at, stands-at, stands-found, free-at, free-found, listed-given, listed-below, listed-index, listed-once, standing-given, free-given, free-not-standing, free-once, given-known, pair-once}
 use Rattle.contact_graph.specs.IdLaws.{listed-not-free, given-sum}
 use Rattle.contact_graph.specs.Effects.{RemoveEffect, differ, same-or-not}
-use Rattle.contact_graph.specs.FitsLaws.{fits-same}
+use Rattle.contact_range.specs.FitsLaws.{fits-same}
 use Rattle.contact_graph.specs.AddKeeps.{not-true, or-left, or-right}
 
 -- two numbers are equal either way round

@@ -21,11 +21,11 @@ use Rattle.contact_records.specs.Held.{Same}
 use Rattle.contact_records.specs.Layout as record-place
 use Rattle.contact_records.specs.Lists.{map-upto-next, map-upto-same, getD-map-upto, length-map-upto}
 use Rattle.contact_records.specs.Recorded.{intOf, namesAt, pairAt}
-use Rattle.contact_graph.specs.Recorded.{listedCount, freeCount, listedAt, freeAt, contactAt, graphOf}
-use Rattle.contact_graph.specs.Range.{stands}
-use Rattle.contact_graph.specs.RangeLaws.{listed-below, listed-once, standing-place}
+use Rattle.contact_range.specs.Recorded.{listedCount, freeCount, listedAt, freeAt, contactAt, graphOf}
+use Rattle.contact_range.specs.Range.{stands}
+use Rattle.contact_range.specs.RangeLaws.{listed-below, listed-once, standing-place}
 use Rattle.contact_graph.specs.Calls.{placeOf, removedWords}
-use Rattle.contact_graph.specs.Checked.{Checked}
+use Rattle.contact_range.specs.Checked.{Checked}
 use Rattle.contact_graph.specs.Effects.{RemoveEffect, remove-effect, same-or-not}
 use Rattle.contact_graph.specs.RemoveKeeps.{remove-keeps}
 use Rattle.contact_graph.specs.CallLaws.{removal-room}

@@ -4,8 +4,8 @@ use mathlib.Core.Path.{_≡_}
 use mathlib.Core.List.{List}
 use Rattle.contact_records.specs.Layout.{pairIndexPlace}
 use Rattle.contact_graph.specs.Calls.{placeOf}
-use Rattle.contact_graph.specs.Layout as place
-use Rattle.contact_graph.specs.Recorded.{listedCount, listedAt, contactAt}
+use Rattle.contact_range.specs.Layout as place
+use Rattle.contact_range.specs.Recorded.{listedCount, listedAt, contactAt}
 use Rattle.contact_graph.specs.declared.remove.Gap.{Gap}
 
 pub record GapOf (g : List ℕ) (id : ℕ) (r : Gap) : Type 0 where

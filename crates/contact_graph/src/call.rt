@@ -1,11 +1,11 @@
 // What the graph's calls take and answer, and the tests that they share. From avian's contact_types/mod.rs and contact_graph.rs.
 ghost use mathlib.Core.Path.{_≡_};
 ghost use Rattle.contact_graph.specs.Calls.{newEdge};
-ghost use Rattle.contact_graph.specs.Range.{stands};
-ghost use Rattle.contact_graph.specs.Checked.{Checked};
-use crate::layout::GIVEN_PLACE;
-use crate::layout::number_at;
-use crate::range::is_standing;
+ghost use Rattle.contact_range.specs.Range.{stands};
+ghost use Rattle.contact_range.specs.Checked.{Checked};
+use contact_range::layout::GIVEN_PLACE;
+use contact_range::layout::number_at;
+use contact_range::range::is_standing;
 use contact_types::contact_id::ContactId;
 
 // What an addition carries. Marks are numbers, so that one that is neither 0 nor 1 can be refused.

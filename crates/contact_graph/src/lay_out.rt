@@ -3,10 +3,10 @@ ghost use mathlib.Core.Path.{_≡_};
 ghost use Prim.Native.Nat.{_≤_};
 ghost use lib.ListN.{length};
 ghost use Rattle.contact_records.specs.Written.{zeros};
-ghost use Rattle.contact_graph.specs.Layout.{graphLength};
+ghost use Rattle.contact_range.specs.Layout.{graphLength};
 ghost use Rattle.contact_graph.specs.Promises.{LaidOut};
-use crate::layout::CONTACT_SIZE;
-use crate::layout::MOST_CONTACTS;
+use contact_range::layout::CONTACT_SIZE;
+use contact_range::layout::MOST_CONTACTS;
 use contact_types::refusal::Refusal;
 
 pub enum LayOutAnswer {

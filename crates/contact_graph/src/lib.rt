@@ -2,7 +2,5 @@
 pub mod add;
 pub mod call;
 pub mod lay_out;
-pub mod layout;
 pub mod look_up;
-pub mod range;
 pub mod remove;

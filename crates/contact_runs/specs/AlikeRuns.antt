@@ -10,8 +10,8 @@ use lib.ListN.{length}
 use Rattle.collider.specs.Layout.{settingsLength, collidersLength, bodiesLength}
 use Rattle.collider.specs.Range.{settingsFit, collidersFit, bodiesFit}
 use Rattle.contact_graph.specs.Calls.{addRefusal, addedWords}
-use Rattle.contact_graph.specs.Range.{rightLength, inRange}
-use Rattle.contact_graph.specs.Recorded.{capacityOf}
+use Rattle.contact_range.specs.Range.{rightLength, inRange}
+use Rattle.contact_range.specs.Recorded.{capacityOf}
 use Rattle.contact_graph.specs.declared.call.Request.{Request}
 use Rattle.proposals.specs.Layout.{proposalSize}
 use Rattle.shares.specs.Layout.{sharesLength}

@@ -1,38 +1,44 @@
 -- The claim about whole lists of additions and steps. Definitions only; the theorem is in `Demand`.
-use Prim.Native.Nat.{ℕ}
+use Prim.Native.Nat.{ℕ, _+_, _*_}
 use mathlib.Core.Path.{_≡_}
 use mathlib.Core.Logic.{_⊎_}
-use mathlib.Core.Bool.{Bool, true}
+use mathlib.Core.Bool.{true, cond}
 use mathlib.Core.List.{List, [], _∷_, map}
 use mathlib.Core.Option.{none}
+use lib.Dec.{eqb}
 use lib.ListN.{length}
 use Rattle.rows.specs.Rows.{put, each}
 use Rattle.rows.specs.Slots.{Distinct, SameMembers, upto}
 use Rattle.rules.specs.Graph.{emptyGraph}
 use Rattle.rules.specs.Runs as rules
-use Rattle.rules.specs.Runs.{plainRun, plainGraph, replayAnswers, heldIn, Provisos}
+use Rattle.rules.specs.Runs.{plainRun, plainGraph, heldIn, Provisos}
+use Rattle.rules.specs.Update.{isRecycled}
 use Rattle.rules.specs.Status as status
-use Rattle.words.specs.Words.{floatWord}
-use Rattle.data_structures.specs.BitVec.{blocksOf, setBits}
+use Rattle.words.specs.Words.{wordAt, floatWord}
+use Rattle.data_structures.specs.BitVec.{blocksOf, marked, setBits}
 use Rattle.contact_records.specs.Fit.{FitFloat}
+use Rattle.contact_records.specs.Recorded.{intOf}
 use Rattle.contact_records.specs.Written.{zeros}
 use Rattle.contact_graph.specs.Calls.{additionOf}
+use Rattle.contact_range.specs.Checked.{Checked}
 use Rattle.contact_graph.specs.Impulses.{ImpulsesWritten}
 use Rattle.contact_graph.specs.Promises as graph
 use Rattle.contact_graph.specs.Promises.{LaidOut, Added, layOutAnswer, addAnswer}
-use Rattle.contact_graph.specs.Recorded.{capacityOf, graphOf}
+use Rattle.contact_range.specs.Recorded.{capacityOf, graphOf}
 use Rattle.contact_graph.specs.declared.add.AddAnswer.{AddAnswer}
 use Rattle.contact_graph.specs.declared.call.Request.{Request}
 use Rattle.contact_graph.specs.declared.lay_out.LayOutAnswer.{LayOutAnswer}
 use Rattle.collider.specs.Recorded.{settingsOf}
-use Rattle.contact_update.specs.Order.{graphAfterAll}
+use Rattle.contact_update.specs.After.{graphAfter}
 use Rattle.shares.specs.Layout.{sharesLength}
 use Rattle.shares.specs.Shares.{sharesFit}
-use Rattle.status_pass.specs.Said.{eventWords, changeWords}
-use Rattle.step.specs.Step.{Given, Rows, Stepped, stepRefusal, madeOf, updatedGraph, plainAnswer}
+use Rattle.status_pass.specs.Pass.{begun, passWords}
+use Rattle.status_pass.specs.Said.{eventWords, changeSize, changeWords}
+use Rattle.step.specs.Step.{Given, Rows, Stepped, stepRefusal, madeOf, updatedGraph, passOf, plainAnswer}
 use Rattle.step.specs.Step as step
 use Rattle.step.specs.declared.answer.StepAnswer.{StepAnswer}
-use Rattle.update_pass.specs.Shared.{activeOf, bitsAfter, distancesAfter, recycledOf, standingIds, distancesOf}
+use Rattle.step.specs.declared.answer.StepAnswer.the-variants as answer
+use Rattle.update_pass.specs.Shared.{activeOf, recycledOf, standingIds, distancesOf}
 use Rattle.contact_runs.specs.Refusals.{plainAddRefusal, plainStepRefusal}
 use Rattle.contact_runs.specs.Solver.{impulsesOf}
 
@@ -110,14 +116,14 @@ AnswerIs (impulses h) silent (rules.added id) = ⊥
 AnswerIs (impulses h) silent (rules.stepped s) = ⊥
 AnswerIs (impulses h) silent rules.silent = Unit {0}
 
--- after each entry: the answer, and what the graph's words record
+-- after each entry: the answer, what the graph's words record, and that they are of the right length and in range (so that list and contacts name each other)
 unfoldable pub AsPlain : List Entry → List Outcome → List rules.After → Type 0
 AsPlain [] [] [] = Unit {0}
 AsPlain [] [] (a ∷ as′) = ⊥
 AsPlain [] (o ∷ os) as′ = ⊥
 AsPlain (e ∷ es) [] as′ = ⊥
 AsPlain (e ∷ es) (o ∷ os) [] = ⊥
-AsPlain (e ∷ es) (o ∷ os) (a ∷ as′) = AnswerIs e (o .told) (a .answer) × (graphOf (o .graph) ≡ a .graph) × AsPlain es os as′
+AsPlain (e ∷ es) (o ∷ os) (a ∷ as′) = AnswerIs e (o .told) (a .answer) × (graphOf (o .graph) ≡ a .graph) × Checked (o .graph) × AsPlain es os as′
 
 -- ---- two lists, alike in all but allowed shares and what the bit words held
 -- refusal 1 and refusal 7 have nothing to say of the shares
@@ -155,12 +161,62 @@ AllAlike g (e ∷ es) (f ∷ fs) [] = ⊥
 AllAlike g (e ∷ es) (f ∷ fs) (o ∷ os) = Alike g e f × AllAlike (o .graph) es fs os
 
 -- ---- updates in another order
--- what updating the contacts of that list leaves, one after another: the graph, the distances, the bits and the recycled count are those of the step
-pub record OrderIs (x : Given) (g ids : List ℕ) : Type 0 where
-  pub graph : graphAfterAll (settingsOf (x .settings)) (x .colliders) (x .bodies) (x .proposals) g ids ≡ updatedGraph x g
-  pub distances : distancesAfter (madeOf x g) (zeros (capacityOf g)) ids ≡ distancesOf (madeOf x g) g
-  pub bits : setBits (bitsAfter (madeOf x g) (zeros (blocksOf (capacityOf g))) ids) ≡ standingIds (madeOf x g) g
-  pub recycled : recycledOf (madeOf x g) ids ≡ recycledOf (madeOf x g) (activeOf g)
+-- what the updates made so far have left: the graph, the bits set, the distances, and how many contacts were recycled
+pub record Stage : Type 0 where
+  pub graph : List ℕ
+  pub bits : List ℕ
+  pub distances : List ℕ
+  pub recycled : ℕ
+
+-- one contact more, as the rules make it of the graph that the updates before have left
+unfoldable pub updateOne : Given → Stage → ℕ → Stage
+updateOne x s id =
+    let u = madeOf x (s .graph) id in
+    record {
+      graph = graphAfter (settingsOf (x .settings)) (x .colliders) (x .bodies) (x .proposals) (s .graph) id;
+      bits = cond (u .bit) (marked (s .bits) id) (s .bits);
+      distances = put (s .distances) id (floatWord (u .distance) ∷ []);
+      recycled = s .recycled + cond (isRecycled (u .way)) 1 0;
+    }
+
+unfoldable pub updateEach : Given → Stage → List ℕ → Stage
+updateEach x s [] = s
+updateEach x s (id ∷ ids) = updateEach x (updateOne x s id) ids
+
+-- no bit set, every distance +0
+abbrev pub stageAt : List ℕ → Stage
+stageAt g = record { graph = g; bits = zeros (blocksOf (capacityOf g)); distances = zeros (capacityOf g); recycled = 0 }
+
+-- what they leave together, and the status pass after them, is the step's
+pub record OrderIs (x : Given) (g : List ℕ) (s : Stage) : Type 0 where
+  pub graph : s .graph ≡ updatedGraph x g
+  pub bits : setBits (s .bits) ≡ standingIds (madeOf x g) g
+  pub distances : s .distances ≡ distancesOf (madeOf x g) g
+  pub recycled : s .recycled ≡ recycledOf (madeOf x g) (activeOf g)
+  pub pass : passWords (begun (s .graph)) (setBits (s .bits)) ≡ passOf x g
+
+-- ---- the changes that the calls have written
+-- a change from its words
+unfoldable pub changeAt : List ℕ → ℕ → status.Change
+changeAt row at =
+    cond (eqb (wordAt row at) 0) (status.start (wordAt row (at + 1)))
+    (cond (eqb (wordAt row at) 1) (status.stop (wordAt row (at + 1)) (wordAt row (at + 2)) (wordAt row (at + 3)))
+    (status.count (wordAt row (at + 1)) (wordAt row (at + 2)) (wordAt row (at + 3)) (intOf (wordAt row (at + 4)))))
+
+-- as many as the report says, from the row's start on
+abbrev pub changesOf : StepAnswer → List ℕ → List status.Change
+changesOf (answer.Done r) row = map (λ k. changeAt row (k * changeSize)) (upto (r .changes))
+changesOf (answer.Refused r) row = []
+
+abbrev pub toldChanges : Told → List status.Change
+toldChanges (added r) = []
+toldChanges (stepped r l) = changesOf r (l .changes)
+toldChanges silent = []
+
+-- replayed in written order; the number of manifolds that a started contact then has is read in the graph that the call left
+unfoldable pub replayTold : List Outcome → rules.Held → rules.Held
+replayTold [] h = h
+replayTold (o ∷ os) h = replayTold os (rules.replay (graphOf (o .graph) .pairs) (toldChanges (o .told)) h)
 
 -- ---- the claim
 pub record Demand3 : Type 0 where
@@ -168,11 +224,11 @@ pub record Demand3 : Type 0 where
   pub plain : (before : List ℕ) (capacity : ℕ) (g : List ℕ) (r : LayOutAnswer) (es : List Entry) (os : List Outcome)
       → LaidOut before capacity g r → layOutAnswer r ≡ graph.done → Run g es os → AsPlain es os (plainRun (map plainOf es) (emptyGraph capacity))
   -- in whatever order the active contacts are updated, once each
-  pub order : (x : Given) (g : List ℕ) (l : Rows) (ids : List ℕ) → stepRefusal x g l ≡ 0 → Distinct ids → SameMembers ids (activeOf g) → OrderIs x g ids
+  pub order : (x : Given) (g : List ℕ) (l : Rows) (ids : List ℕ) → stepRefusal x g l ≡ 0 → Distinct ids → SameMembers ids (activeOf g) → OrderIs x g (updateEach x (stageAt g) ids)
   -- begun on the same words, alike in all but allowed shares and what the bit words held: the same words after every call
   pub bytes : (g : List ℕ) (es fs : List Entry) (os ps : List Outcome) → Run g es os → Run g fs ps → AllAlike g es fs os
       → map (λ (o : Outcome). o .graph) ps ≡ map (λ (o : Outcome). o .graph) os
-  -- under the two provisos, the changes of the whole list, replayed, hold the contacts that touch and generate, each with its manifold count
+  -- under the two provisos, the changes that the calls of the whole list have written, replayed from nothing held, hold the contacts that touch and generate, each with its manifold count
   pub replay : (before : List ℕ) (capacity : ℕ) (g : List ℕ) (r : LayOutAnswer) (es : List Entry) (os : List Outcome)
       → LaidOut before capacity g r → layOutAnswer r ≡ graph.done → Run g es os → Provisos (map plainOf es) (emptyGraph capacity)
-      → (id : ℕ) → replayAnswers (plainRun (map plainOf es) (emptyGraph capacity)) (λ _. none) id ≡ heldIn (plainGraph (map plainOf es) (emptyGraph capacity) .pairs) id
+      → (id : ℕ) → replayTold os (λ _. none) id ≡ heldIn (plainGraph (map plainOf es) (emptyGraph capacity) .pairs) id

@@ -4,25 +4,26 @@ use native.Mathlib.Omega.{arith}
 use mathlib.Core.Path.{_≡_, refl, sym, ap, subst, _∙_}
 use mathlib.Core.Bool.{Bool, true, false, cond, _&&_}
 use mathlib.Core.List.{List, map}
+use mathlib.Core.Option.{none}
 use borrow.Author.Tests.{ltb-true, leb-true}
 use lib.Dec.{eqb, ltb, leb, eqb·suc-zero}
 use lib.ListN.{length}
 use Rattle.rules.specs.Graph.{Graph, emptyGraph}
 use Rattle.rules.specs.Limits.{mostContacts}
-use Rattle.rules.specs.Runs.{plainRun}
+use Rattle.rules.specs.Runs.{plainRun, Held, replayAnswers}
 use Rattle.contact_graph.specs.Calls.{layOutRefusal, laidOut}
-use Rattle.contact_graph.specs.Checked.{Checked}
+use Rattle.contact_range.specs.Checked.{Checked}
 use Rattle.contact_graph.specs.LaidOutLaws.{laid-right, laid-in-range, laid-empty}
-use Rattle.contact_graph.specs.Layout.{graphLength}
+use Rattle.contact_range.specs.Layout.{graphLength}
 use Rattle.contact_graph.specs.Promises as graph
 use Rattle.contact_graph.specs.Promises.{LaidOut, layOutAnswer}
-use Rattle.contact_graph.specs.RangeLaws.{first-of, rest-of, right-length}
-use Rattle.contact_graph.specs.Recorded.{graphOf}
+use Rattle.contact_range.specs.RangeLaws.{first-of, rest-of, right-length}
+use Rattle.contact_range.specs.Recorded.{graphOf}
 use Rattle.contact_graph.specs.declared.lay_out.LayOutAnswer.{LayOutAnswer}
 use Rattle.contact_runs.specs.AlikeRuns.{run-alike}
 use Rattle.contact_runs.specs.Claim.{plainOf, AsPlain, Demand3}
 use Rattle.contact_runs.specs.OrderLaws.{order-is}
-use Rattle.contact_runs.specs.ReplayLaws.{replay-plain}
+use Rattle.contact_runs.specs.ReplayLaws.{replay-plain, run-replays}
 use Rattle.contact_runs.specs.RunLaws.{run-plain}
 
 -- ---- a newly laid out graph
@@ -70,5 +71,9 @@ demand3 =
           (run-plain g (laid-checked before capacity g r l d) es os k);
       order = order-is;
       bytes = run-alike;
-      replay = λ before capacity g r es os l d k. replay-plain es capacity;
+      replay =
+          λ before capacity g r es os l d k p id. ap (λ (h : Held). h id)
+          (run-replays g (laid-checked before capacity g r l d) es os k (λ _. none)
+          ∙ ap (λ (q : Graph). replayAnswers (plainRun (map plainOf es) q) (λ _. none)) (laid-plain before capacity g r l d))
+          ∙ replay-plain es capacity p id;
     }

@@ -3,19 +3,21 @@ use Prim.Native.Nat.{ℕ}
 use mathlib.Core.Path.{_≡_, refl, sym, ap, _∙_}
 use mathlib.Core.Logic.{_⊎_, inl, inr}
 use mathlib.Core.Bool.{Bool, true, false, cond, not, _&&_}
-use mathlib.Core.List.{List, [], _∷_}
+use mathlib.Core.List.{List, [], _∷_, map}
 use lib.Dec.{eqb}
 use lib.ListN.{length}
+use Rattle.rules.specs.Runs.{plainGraph}
 use Rattle.contact_types.specs.Refusals.{numberOf}
 use Rattle.contact_types.specs.declared.refusal.Refusal.{Refusal}
 use Rattle.contact_types.specs.declared.refusal.Refusal.the-variants.{WrongLength, OutOfRange, SameCollider, PairExists, GraphFull, ProposalTooLarge, InvalidShares, TooFewPoints, NoContact}
 use Rattle.contact_records.specs.Fit.{FitFloat}
 use Rattle.contact_graph.specs.Calls.{requestFits, pairStands, addRefusal, newIdOf, addedWords}
+use Rattle.contact_range.specs.Checked.{Checked}
 use Rattle.contact_graph.specs.Impulses.{ImpulsesWritten}
 use Rattle.contact_graph.specs.Promises as graph
 use Rattle.contact_graph.specs.Promises.{Added, addAnswer}
-use Rattle.contact_graph.specs.Range.{rightLength, inRange}
-use Rattle.contact_graph.specs.Recorded.{capacityOf, listedCount}
+use Rattle.contact_range.specs.Range.{rightLength, inRange}
+use Rattle.contact_range.specs.Recorded.{capacityOf, listedCount, graphOf}
 use Rattle.contact_graph.specs.declared.add.AddAnswer.{AddAnswer}
 use Rattle.contact_graph.specs.declared.add.AddAnswer.the-variants as add
 use Rattle.contact_graph.specs.declared.call.Request.{Request}
@@ -25,7 +27,8 @@ use Rattle.step.specs.Step.{Given, Rows, lengthsFit, numbersFit, proposalsFit, 
 use Rattle.step.specs.declared.answer.StepAnswer.{StepAnswer}
 use Rattle.step.specs.declared.answer.StepAnswer.the-variants as answer
 use Rattle.update_pass.specs.Shared.{activeOf, recycledOf}
-use Rattle.contact_runs.specs.Claim.{Entry, addition, stepping, impulses, Told, added, stepped, silent, Outcome, Call, Run}
+use Rattle.contact_runs.specs.Claim.{Entry, addition, stepping, impulses, Told, added, stepped, silent, Outcome, Call, Run, plainOf}
+use Rattle.contact_runs.specs.RunLaws.{call-plain}
 
 -- ---- a refusal for each number that is not 0
 abbrev Numbered : ℕ → Type 0
@@ -118,3 +121,21 @@ run-of g (e ∷ es) f =
     let c = call-of g e (f .0) in
     let r = run-of (nextGraph g e) es (f .1) in
     (record { told = c .0; graph = nextGraph g e } ∷ r .0, (c .1, r .1))
+
+-- ---- the graph's words after the list, and what they record
+unfoldable pub endGraph : List ℕ → List Entry → List ℕ
+endGraph g [] = g
+endGraph g (e ∷ es) = endGraph (nextGraph g e) es
+
+told-next : (g : List ℕ) (e : Entry) (t : Told) (h : List ℕ) → Call g e (record { told = t; graph = h }) → h ≡ nextGraph g e
+told-next g (addition a) (added r) h k = k .1 .graph
+told-next g (stepping x l) (stepped r l′) h k = k .graph
+told-next g (impulses j) silent h k = k .1
+
+pub end-plain : (g : List ℕ) → Checked g → (es : List Entry) (os : List Outcome) → Run g es os → plainGraph (map plainOf es) (graphOf g) ≡ graphOf (endGraph g es)
+unfolding Run plainGraph endGraph
+end-plain g c [] [] r = refl
+end-plain g c (e ∷ es) (o ∷ os) r =
+    let m = call-plain g c e o (r .0) in
+    ap (plainGraph (map plainOf es)) (sym (m .2)) ∙ end-plain (o .graph) (m .0) es os (r .1)
+    ∙ ap (λ (h : List ℕ). graphOf (endGraph h es)) (told-next g e (o .told) (o .graph) (r .0))

@@ -1,5 +1,5 @@
 -- A list of calls on a graph of capacity 2: two additions, a refused one, a step, an impulse that a solver writes, and two steps more.
--- It has a run, its plain run keeps to the provisos, and what its calls answer is computed. Assumes nothing.
+-- It has a run, its plain run keeps to the provisos, and what its calls answer is computed. The same of the list without its last step. Assumes nothing.
 use Prim.Native.Nat.{ℕ, zero, suc, _+_, _-_, _*_, _≤_}
 use native.Mathlib.Omega.{arith}
 use mathlib.Core.Path.{_≡_, refl, sym, ap, subst, _∙_}
@@ -12,7 +12,7 @@ use lib.ListN.{length}
 use lib.Seq.{getD-append-add}
 use Rattle.rows.specs.Rows.{put}
 use Rattle.rules.specs.Graph.{emptyGraph}
-use Rattle.rules.specs.Runs.{Provisos, plainRun, plainGraph, replayAnswers, heldIn}
+use Rattle.rules.specs.Runs.{Provisos, plainRun, plainGraph, heldIn}
 use Rattle.words.specs.Words.{wordAt}
 use Rattle.collider.specs.Recorded.{colliderAt, presentCollider, bodyAt}
 use Rattle.contact_records.specs.Fit.{FitFloat}
@@ -27,7 +27,7 @@ use Rattle.contact_graph.specs.declared.lay_out.LayOutAnswer.the-variants.{Done
 use Rattle.contact_update.specs.After.{inputsOf}
 use Rattle.step.specs.Step as step
 use Rattle.step.specs.Step.{Given, Rows, stepRefusal, passOf, answerOf}
-use Rattle.contact_runs.specs.Claim.{Entry, addition, stepping, impulses, Outcome, Run, plainOf, AsPlain}
+use Rattle.contact_runs.specs.Claim.{Entry, addition, stepping, impulses, Outcome, Run, plainOf, AsPlain, replayTold}
 use Rattle.contact_runs.specs.Demand.{demand3}
 use Rattle.contact_runs.specs.Example.{nextGraph, Fits, AllFit, run-of}
 use Rattle.contact_runs.specs.Opened.{openedFloats, openedVectors, openedFiltering, openedMatching, openedRecycling, openedUpdate, openedColliders, openedProposals, openedRecords, openedCalls, openedRange, openedUpdates, openedPass, openedStep}
@@ -117,23 +117,29 @@ solved = put touched 65 (one ∷ [])
 unfoldable pub rested : List ℕ
 rested = passOf (near 1) solved .graph
 
-unfoldable pub calls : List Entry
-calls =
+-- all but the last step, and calls after them
+unfoldable pub callsThen : List Entry → List Entry
+callsThen es =
     addition (request 0 1)
     ∷ addition (request 1 2)
     ∷ addition (request 0 2)
     ∷ stepping (near 2) rows
     ∷ impulses solved
     ∷ stepping (near 1) rows
-    ∷ stepping far rows
-    ∷ []
+    ∷ es
+
+abbrev pub earlier : List Entry
+earlier = callsThen []
+
+abbrev pub calls : List Entry
+calls = callsThen (stepping far rows ∷ [])
 
 -- ---- all that the following numbers are computed by
 unfoldable openedRules : ℕ
 unfolding openedFloats openedVectors openedFiltering openedMatching openedRecycling openedUpdate openedColliders openedProposals
 openedRules = 0
 
-unfoldable opened : ℕ
+unfoldable pub opened : ℕ
 unfolding openedRules openedRecords openedCalls openedRange openedUpdates openedPass openedStep colliderWords collidersFrom bodyWords bodies settings proposals near far rows request first second touched solved rested
 opened = 0
 
@@ -206,31 +212,34 @@ fits-then : (g h : List ℕ) (e : Entry) (es : List Entry) → Fits g e → next
 unfolding AllFit
 fits-then g h e es f n r = (f, subst (λ (k : List ℕ). AllFit k es) (sym n) r)
 
-added-next : (g : List ℕ) (a : Request) (n : ℕ) → addRefusal g a ≡ n → nextGraph g (addition a) ≡ cond (eqb n 0) (addedWords g a) g
+pub added-next : (g : List ℕ) (a : Request) (n : ℕ) → addRefusal g a ≡ n → nextGraph g (addition a) ≡ cond (eqb n 0) (addedWords g a) g
 added-next g a n e = ap (λ (m : ℕ). cond (eqb m 0) (addedWords g a) g) e
 
-stepped-next : (g : List ℕ) (x : Given) → stepRefusal x g rows ≡ 0 → nextGraph g (stepping x rows) ≡ passOf x g .graph
+pub stepped-next : (g : List ℕ) (x : Given) → stepRefusal x g rows ≡ 0 → nextGraph g (stepping x rows) ≡ passOf x g .graph
 stepped-next g x e = ap (λ (m : ℕ). cond (eqb m 0) (passOf x g .graph) g) e
 
-steps-fit : AllFit solved (stepping (near 1) rows ∷ stepping far rows ∷ [])
-unfolding AllFit rested
-steps-fit = fits-then solved rested (stepping (near 1) rows) (stepping far rows ∷ []) tt (stepped-next solved (near 1) second-step) (tt, tt)
+module _ (es : List Entry) where
+  solver-fits : AllFit rested es → AllFit second (stepping (near 2) rows ∷ impulses solved ∷ stepping (near 1) rows ∷ es)
+  unfolding touched solved rested
+  solver-fits f =
+      fits-then second touched (stepping (near 2) rows) (impulses solved ∷ stepping (near 1) rows ∷ es) tt (stepped-next second (near 2) first-step)
+      (fits-then touched solved (impulses solved) (stepping (near 1) rows ∷ es) (impulse-put touched 65 one solved-at) refl
+      (fits-then solved rested (stepping (near 1) rows) es tt (stepped-next solved (near 1) second-step) f))
 
-solver-fits : AllFit second (stepping (near 2) rows ∷ impulses solved ∷ stepping (near 1) rows ∷ stepping far rows ∷ [])
-unfolding touched solved
-solver-fits =
-    fits-then second touched (stepping (near 2) rows) (impulses solved ∷ stepping (near 1) rows ∷ stepping far rows ∷ []) tt (stepped-next second (near 2) first-step)
-    (fits-then touched solved (impulses solved) (stepping (near 1) rows ∷ stepping far rows ∷ []) (impulse-put touched 65 one solved-at) refl steps-fit)
+  calls-fit : AllFit rested es → AllFit (laidOut 2) (callsThen es)
+  unfolding callsThen first second
+  calls-fit f =
+      fits-then (laidOut 2) first (addition (request 0 1)) _ (small 0 1) (added-next (laidOut 2) (request 0 1) 0 first-added)
+      (fits-then first second (addition (request 1 2)) _ (small 1 2) (added-next first (request 1 2) 0 second-added)
+      (fits-then second second (addition (request 0 2)) _ (small 0 2) (added-next second (request 0 2) 5 third-refused) (solver-fits f)))
 
-calls-fit : AllFit (laidOut 2) calls
-unfolding calls first second
-calls-fit =
-    fits-then (laidOut 2) first (addition (request 0 1)) _ (small 0 1) (added-next (laidOut 2) (request 0 1) 0 first-added)
-    (fits-then first second (addition (request 1 2)) _ (small 1 2) (added-next first (request 1 2) 0 second-added)
-    (fits-then second second (addition (request 0 2)) _ (small 0 2) (added-next second (request 0 2) 5 third-refused) solver-fits))
+pub earlier-run : (os : List Outcome) × Run (laidOut 2) earlier os
+unfolding AllFit
+earlier-run = run-of (laidOut 2) earlier (calls-fit [] tt)
 
 pub calls-run : (os : List Outcome) × Run (laidOut 2) calls os
-calls-run = run-of (laidOut 2) calls calls-fit
+unfolding AllFit
+calls-run = run-of (laidOut 2) calls (calls-fit (stepping far rows ∷ []) (tt, tt))
 
 -- ---- its plain run keeps to the provisos
 -- a collider past the words is absent
@@ -267,20 +276,28 @@ far-solid : AllSolid (step.inputs far)
 unfolding far inputsOf
 far-solid = solid 0x40a0_0000 0x40c0_0000
 
-calls-keep : AllKeeping calls
-unfolding AllKeeping calls request
-calls-keep = ((refl, refl), ((refl, refl), ((refl, refl), (near-solid 2, (tt, (near-solid 1, (far-solid, tt)))))))
+calls-keep : (es : List Entry) → AllKeeping es → AllKeeping (callsThen es)
+unfolding AllKeeping callsThen request
+calls-keep es k = ((refl, refl), ((refl, refl), ((refl, refl), (near-solid 2, (tt, (near-solid 1, k))))))
+
+pub earlier-provisos : Provisos (map plainOf earlier) (emptyGraph 2)
+unfolding AllKeeping
+earlier-provisos = provisos-hold earlier 2 (calls-keep [] tt)
 
 pub calls-provisos : Provisos (map plainOf calls) (emptyGraph 2)
-calls-provisos = provisos-hold calls 2 calls-keep
+unfolding AllKeeping
+calls-provisos = provisos-hold calls 2 (calls-keep (stepping far rows ∷ []) (far-solid, tt))
 
 -- ---- so the claim speaks of it
-laid : LaidOut (zeros 1054) 2 (laidOut 2) Done
+pub laid : LaidOut (zeros 1054) 2 (laidOut 2) Done
 unfolding opened
 laid = record { answer = refl; graph = refl }
 
 pub calls-plain : AsPlain calls (calls-run .0) (plainRun (map plainOf calls) (emptyGraph 2))
 calls-plain = demand3 .plain (zeros 1054) 2 (laidOut 2) Done calls (calls-run .0) laid refl (calls-run .1)
 
-pub calls-replay : (id : ℕ) → replayAnswers (plainRun (map plainOf calls) (emptyGraph 2)) (λ _. none) id ≡ heldIn (plainGraph (map plainOf calls) (emptyGraph 2) .pairs) id
+pub calls-replay : (id : ℕ) → replayTold (calls-run .0) (λ _. none) id ≡ heldIn (plainGraph (map plainOf calls) (emptyGraph 2) .pairs) id
 calls-replay = demand3 .replay (zeros 1054) 2 (laidOut 2) Done calls (calls-run .0) laid refl (calls-run .1) calls-provisos
+
+pub earlier-replay : (id : ℕ) → replayTold (earlier-run .0) (λ _. none) id ≡ heldIn (plainGraph (map plainOf earlier) (emptyGraph 2) .pairs) id
+earlier-replay = demand3 .replay (zeros 1054) 2 (laidOut 2) Done earlier (earlier-run .0) laid refl (earlier-run .1) earlier-provisos

@@ -15,11 +15,11 @@ use Rattle.contact_records.specs.Layout as record-place
 use Rattle.contact_records.specs.Lists.{map-upto-same, length-map-upto}
 use Rattle.contact_records.specs.Recorded.{intOf, namesAt, pointAt, pointsAt, manifoldAt, manifoldsAt, pairAt}
 use Rattle.contact_graph.specs.AddedGraph.{listedPair}
-use Rattle.contact_graph.specs.Checked.{Checked}
+use Rattle.contact_range.specs.Checked.{Checked}
 use Rattle.contact_graph.specs.ImpulseLaws.{map-map, capacity-kept, given-kept, listed-kept, freed-kept, listed-at, free-at, first-words, first-run, own-run, manifold-run, point-word, point-run, impulses-in-range}
 use Rattle.contact_graph.specs.Impulses.{storedPointPlace, ImpulsesWritten}
-use Rattle.contact_graph.specs.RangeLaws.{Fitting, listed-fits}
-use Rattle.contact_graph.specs.Recorded.{listedCount, freeCount, listedAt, freeAt, contactAt, graphOf}
+use Rattle.contact_range.specs.RangeLaws.{Fitting, listed-fits}
+use Rattle.contact_range.specs.Recorded.{listedCount, freeCount, listedAt, freeAt, contactAt, graphOf}
 use Rattle.contact_runs.specs.Solver.{pointWith, numbered, manifoldWith, pairWith, impulsesAt}
 
 -- ---- elements by their number

@@ -5,6 +5,7 @@ pub mod ImpulsesMean
 pub mod RefusalLaws
 pub mod RunLaws
 pub mod AlikeRuns
+pub mod ToldLaws
 pub mod ReplayLaws
 pub mod OrderLaws
 pub mod Demand
@@ -12,3 +13,4 @@ pub mod Example
 pub mod ProvisoLaws
 pub mod Opened
 pub mod ExampleCalls
+pub mod ExampleHeld

@@ -24,7 +24,7 @@ use Rattle.rows.specs.Slots.{upto, updateAt}
 use Rattle.contact_records.specs.Recorded.{pointAt, pointsAt, manifoldAt, manifoldsAt, cacheAt, flagsAt, namesAt, edgeAt, pairAt}
 use Rattle.contact_records.specs.Written.{zeros, padded, optionalWords, intWord, pointWords, manifoldWords, manifoldsWords, cacheWords, flagsWords, namesWords, edgeWords, stateWords, contactWords}
 use Rattle.contact_graph.specs.Calls.{layOutRefusal, laidOut, requestFits, pairStands, addRefusal, newIdOf, addedWords, removedWords}
-use Rattle.contact_graph.specs.Range.{rightLength, namesFit, marksFit, manifoldsFit, contactFits, countsFit, listedGiven, namesBack, contactsFit, freeGiven, freeOnce, stands, isFree, freeApart, givenKnown, sameColliders, samePair, pairsOnce, inRange}
+use Rattle.contact_range.specs.Range.{rightLength, namesFit, marksFit, manifoldsFit, contactFits, countsFit, listedGiven, namesBack, contactsFit, freeGiven, freeOnce, stands, isFree, freeApart, givenKnown, sameColliders, samePair, pairsOnce, inRange}
 use Rattle.data_structures.specs.BitVec.{blocksOf, numbersWith}
 use Rattle.contact_update.specs.After.{pointsPut, manifoldsPut, afterWords, recordUpdated, recordAfter, graphAfter, inputsOf}
 use Rattle.contact_update.specs.Contact.{updateOf}

@@ -14,11 +14,11 @@ use Rattle.contact_records.specs.Recorded.{namesAt, pairAt}
 use Rattle.collider.specs.Range.{settingsFit, collidersFit, bodiesFit}
 use Rattle.contact_graph.specs.AddedGraph.{listedPair}
 use Rattle.contact_graph.specs.Calls.{requestFits, pairStands, addRefusal}
-use Rattle.contact_graph.specs.Checked.{Checked}
-use Rattle.contact_graph.specs.Range.{rightLength, inRange, stands, sameColliders}
-use Rattle.contact_graph.specs.RangeLaws.{holds, in-range-test}
-use Rattle.contact_graph.specs.RangeShown.{right-length-test}
-use Rattle.contact_graph.specs.Recorded.{capacityOf, listedCount, graphOf}
+use Rattle.contact_range.specs.Checked.{Checked}
+use Rattle.contact_range.specs.Range.{rightLength, inRange, stands, sameColliders}
+use Rattle.contact_range.specs.RangeLaws.{holds, in-range-test}
+use Rattle.contact_range.specs.RangeShown.{right-length-test}
+use Rattle.contact_range.specs.Recorded.{capacityOf, listedCount, graphOf}
 use Rattle.contact_graph.specs.declared.call.Request.{Request}
 use Rattle.proposals.specs.Layout.{proposalSize}
 use Rattle.proposals.specs.Range.{hookFits, proposalFits}

@@ -9,7 +9,7 @@ use Rattle.rules.specs.Numbers.{every}
 use Rattle.rules.specs.Records.{Pair}
 use Rattle.collider.specs.Range.{settingsFit, collidersFit, bodiesFit}
 use Rattle.contact_graph.specs.Calls.{requestFits}
-use Rattle.contact_graph.specs.Range.{sameColliders}
+use Rattle.contact_range.specs.Range.{sameColliders}
 use Rattle.contact_graph.specs.declared.call.Request.{Request}
 use Rattle.proposals.specs.Layout.{proposalSize}
 use Rattle.proposals.specs.Range.{hookFits, proposalFits}

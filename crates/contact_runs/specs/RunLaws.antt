@@ -13,10 +13,10 @@ use Rattle.rules.specs.Status.{Event, Change, plainStep}
 use Rattle.contact_records.specs.Fit.{FitFloat}
 use Rattle.contact_graph.specs.AddedGraph.{added-in-range, added-id, added-graph}
 use Rattle.contact_graph.specs.Calls.{additionOf, addRefusal, newIdOf, addedWords}
-use Rattle.contact_graph.specs.Checked.{Checked}
+use Rattle.contact_range.specs.Checked.{Checked}
 use Rattle.contact_graph.specs.Promises as graph
 use Rattle.contact_graph.specs.Promises.{Added, addAnswer}
-use Rattle.contact_graph.specs.Recorded.{graphOf}
+use Rattle.contact_range.specs.Recorded.{graphOf}
 use Rattle.contact_graph.specs.declared.add.AddAnswer.{AddAnswer}
 use Rattle.contact_graph.specs.declared.call.Request.{Request}
 use Rattle.status_pass.specs.Said.{eventWords, changeWords}
@@ -104,4 +104,4 @@ unfolding Run AsPlain plainRun
 run-plain g c [] [] k = tt
 run-plain g c (e ∷ es) (o ∷ os) k =
     let m = call-plain g c e o (k .0) in
-    (m .1, m .2, subst (λ (p : Graph). AsPlain es os (plainRun (map plainOf es) p)) (m .2) (run-plain (o .graph) (m .0) es os (k .1)))
+    (m .1, m .2, m .0, subst (λ (p : Graph). AsPlain es os (plainRun (map plainOf es) p)) (m .2) (run-plain (o .graph) (m .0) es os (k .1)))

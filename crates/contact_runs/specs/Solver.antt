@@ -12,7 +12,7 @@ use Rattle.rules.specs.Stripped.{strippedPoint, strippedManifold, stripped}
 use Rattle.words.specs.Words.{floatAt}
 use Rattle.contact_records.specs.Layout as place
 use Rattle.contact_graph.specs.Impulses.{storedPointPlace}
-use Rattle.contact_graph.specs.Recorded.{contactAt}
+use Rattle.contact_range.specs.Recorded.{contactAt}
 
 -- the impulses of a point
 pub record PointImpulses : Type 0 where

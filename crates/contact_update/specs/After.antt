@@ -11,8 +11,8 @@ use Rattle.collider.specs.Recorded.{colliderAt, bodyAt}
 use Rattle.contact_records.specs.Layout as place
 use Rattle.contact_records.specs.Recorded.{pairAt}
 use Rattle.contact_records.specs.Written.{markWord, stateWords}
-use Rattle.contact_graph.specs.Layout as graph-place
-use Rattle.contact_graph.specs.Recorded.{capacityOf}
+use Rattle.contact_range.specs.Layout as graph-place
+use Rattle.contact_range.specs.Recorded.{capacityOf}
 use Rattle.proposals.specs.Layout.{proposalSize}
 use Rattle.proposals.specs.Recorded.{proposalAt, hookAt}
 

@@ -23,7 +23,7 @@ use Rattle.collider.specs.Recorded.{numberIfAt, presentCollider, colliderAt}
 use Rattle.contact_records.specs.StateViews.{flagsOf, cachedOf}
 use Rattle.contact_records.specs.Written.{flagsWords, cacheWords, manifoldsWords, stateWords}
 use Rattle.contact_types.specs.Views.{manifoldsOf}
-use Rattle.contact_graph.specs.RangeLaws.{first-of, rest-of}
+use Rattle.contact_range.specs.RangeLaws.{first-of, rest-of}
 use Rattle.contact_update.specs.After.{afterWords}
 use Rattle.contact_update.specs.Made.{skippedUpdate, apartUpdate, recycledUpdate, overlapped}
 use Rattle.contact_update.specs.Updates.{BelowLimit, Updates, SkippedIs, RenewedTo}

@@ -12,9 +12,9 @@ use Rattle.data_structures.specs.BitVec.{marked}
 use Rattle.collider.specs.Layout.{collidersLength, bodiesLength}
 use Rattle.collider.specs.Range.{collidersFit}
 use Rattle.contact_records.specs.Recorded.{pairAt}
-use Rattle.contact_graph.specs.Checked.{Checked}
-use Rattle.contact_graph.specs.Range.{stands}
-use Rattle.contact_graph.specs.Recorded.{capacityOf, contactAt}
+use Rattle.contact_range.specs.Checked.{Checked}
+use Rattle.contact_range.specs.Range.{stands}
+use Rattle.contact_range.specs.Recorded.{capacityOf, contactAt}
 use Rattle.proposals.specs.Layout.{proposalSize}
 use Rattle.proposals.specs.Range.{Proposed}
 use Rattle.contact_update.specs.After.{proposalOf, graphAfter, inputsOf}

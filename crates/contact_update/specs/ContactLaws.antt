@@ -10,9 +10,9 @@ use Rattle.rows.specs.SlotLaws.{updateAt-lent}
 use Rattle.rules.specs.Inputs.{Settings}
 use Rattle.rules.specs.Update.{isRecycled, Updated}
 use Rattle.contact_records.specs.Layout as record-place
-use Rattle.contact_graph.specs.Layout as place
-use Rattle.contact_graph.specs.RangeLaws.{Fitting, standing-below, standing-fits}
-use Rattle.contact_graph.specs.Recorded.{capacityOf, contactAt}
+use Rattle.contact_range.specs.Layout as place
+use Rattle.contact_range.specs.RangeLaws.{Fitting, standing-below, standing-fits}
+use Rattle.contact_range.specs.Recorded.{capacityOf, contactAt}
 use Rattle.proposals.specs.Layout.{proposalSize}
 use Rattle.proposals.specs.Range.{Proposed}
 use Rattle.contact_update.specs.After.{proposalOf, recordAfter, graphAfter}

@@ -30,14 +30,14 @@ use Rattle.contact_records.specs.Held.{Same, same-in, word-same, first-same, pa
 use Rattle.contact_records.specs.Layout as record-place
 use Rattle.contact_records.specs.Lists.{map-upto-same}
 use Rattle.contact_records.specs.Recorded.{namesAt, pairAt}
-use Rattle.contact_graph.specs.Layout as place
-use Rattle.contact_graph.specs.Recorded.{capacityOf, givenOf, listedCount, freeCount, listedAt, freeAt, contactAt, graphOf}
-use Rattle.contact_graph.specs.Range.{stands, isFree, sameColliders, samePair}
-use Rattle.contact_graph.specs.RangeLaws.{RightLength, counts, Fitting, fitting, listed-given, listed-index, listed-fits, standing-fits, standing-below, free-given, free-once, free-not-standing, given-known, pair-once}
-use Rattle.contact_graph.specs.RangeShown.{EachInRange, fitting-test, each-in-range}
-use Rattle.contact_graph.specs.Checked.{Checked}
+use Rattle.contact_range.specs.Layout as place
+use Rattle.contact_range.specs.Recorded.{capacityOf, givenOf, listedCount, freeCount, listedAt, freeAt, contactAt, graphOf}
+use Rattle.contact_range.specs.Range.{stands, isFree, sameColliders, samePair}
+use Rattle.contact_range.specs.RangeLaws.{RightLength, counts, Fitting, fitting, listed-given, listed-index, listed-fits, standing-fits, standing-below, free-given, free-once, free-not-standing, given-known, pair-once}
+use Rattle.contact_range.specs.RangeShown.{EachInRange, fitting-test, each-in-range}
+use Rattle.contact_range.specs.Checked.{Checked}
 use Rattle.contact_graph.specs.Effects.{contact-after, contact-room, same-or-not, word-apart}
-use Rattle.contact_graph.specs.FitsLaws.{fits-same}
+use Rattle.contact_range.specs.FitsLaws.{fits-same}
 use Rattle.contact_graph.specs.AddedGraph.{right-kept, listedPair, listed-counted}
 use Rattle.contact_graph.specs.RemovedGraph.{pair-id}
 use Rattle.contact_graph.specs.ImpulseLaws.{map-map}

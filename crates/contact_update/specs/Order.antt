@@ -12,9 +12,9 @@ use Rattle.rows.specs.SlotLaws.{part-updateAt-other, updates-order}
 use Rattle.rules.specs.Inputs.{Settings}
 use Rattle.contact_records.specs.Layout as record-place
 use Rattle.contact_graph.specs.AddedGraph.{right-kept}
-use Rattle.contact_graph.specs.Layout as place
-use Rattle.contact_graph.specs.RangeLaws.{RightLength, standing-below}
-use Rattle.contact_graph.specs.Recorded.{capacityOf, contactAt}
+use Rattle.contact_range.specs.Layout as place
+use Rattle.contact_range.specs.RangeLaws.{RightLength, standing-below}
+use Rattle.contact_range.specs.Recorded.{capacityOf, contactAt}
 use Rattle.proposals.specs.Layout.{proposalSize}
 use Rattle.contact_update.specs.After.{graphAfter}
 use Rattle.contact_update.specs.Contact.{ContactReady, updateOf}

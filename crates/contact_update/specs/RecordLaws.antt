@@ -38,8 +38,8 @@ use Rattle.contact_records.specs.Lengths.{length-cache, length-flags, length-st
 use Rattle.contact_records.specs.Lists.{getD-map-upto, length-map-upto, map-upto-same}
 use Rattle.contact_records.specs.Recorded.{intOf, pointAt, pointsAt, manifoldAt, manifoldsAt, flagsAt, pairAt}
 use Rattle.contact_records.specs.Written.{markWord, zeros, intWord, manifoldsWords, cacheWords, flagsWords, stateWords}
-use Rattle.contact_graph.specs.Range.{isMark, optionalFits}
-use Rattle.contact_graph.specs.RangeLaws.{Fitting}
+use Rattle.contact_range.specs.Range.{isMark, optionalFits}
+use Rattle.contact_range.specs.RangeLaws.{Fitting}
 use Rattle.contact_graph.specs.Effects.{differ, same-or-not}
 use Rattle.contact_graph.specs.ImpulseLaws.{same-offset, same-word, map-map}
 use Rattle.contact_update.specs.After.{pointsPut, manifoldsPut, disjointPlace, staticPlace, afterWords, recordUpdated, recordAfter}

@@ -14,9 +14,9 @@ use Rattle.rules.specs.Surface.{frictionOf, restitutionOf}
 use Rattle.rules.specs.Update.{apart, full, isRecycled, Updated, bodyOf, disjoint, renewed, overlapping, updatedBetween}
 use Rattle.contact_records.specs.Fit.{FitPair}
 use Rattle.contact_records.specs.Layout as record-place
-use Rattle.contact_graph.specs.Checked.{Checked}
-use Rattle.contact_graph.specs.RangeLaws.{standing-fits}
-use Rattle.contact_graph.specs.Recorded.{contactAt, graphOf}
+use Rattle.contact_range.specs.Checked.{Checked}
+use Rattle.contact_range.specs.RangeLaws.{standing-fits}
+use Rattle.contact_range.specs.Recorded.{contactAt, graphOf}
 use Rattle.contact_update.specs.After.{proposalOf, recordUpdated, graphAfter, inputsOf}
 use Rattle.contact_update.specs.Contact.{ContactReady, updateOf}
 use Rattle.contact_update.specs.GraphLaws.{recordOf, record-fitting, record-updated, update-in-range, update-graph}

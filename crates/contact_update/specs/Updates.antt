@@ -20,7 +20,7 @@ use Rattle.contact_records.specs.Recorded.{pairAt}
 use Rattle.contact_records.specs.StateViews.{flagsOf, cachedOf}
 use Rattle.contact_records.specs.Written.{intWord}
 use Rattle.contact_types.specs.Views.{manifoldsOf}
-use Rattle.contact_graph.specs.RangeLaws.{Fitting}
+use Rattle.contact_range.specs.RangeLaws.{Fitting}
 use Rattle.proposals.specs.Layout.{proposalSize}
 use Rattle.proposals.specs.Range.{Proposed}
 use Rattle.narrow_phase.specs.Motions.{penetrationAfter}

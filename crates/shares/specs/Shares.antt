@@ -5,8 +5,8 @@ use mathlib.Core.List.{List}
 use lib.Dec.{eqb, ltb, leb}
 use Rattle.rules.specs.Numbers.{every}
 use Rattle.words.specs.Words.{wordAt}
-use Rattle.contact_graph.specs.Range.{stands}
-use Rattle.contact_graph.specs.Recorded.{capacityOf, listedCount, listedAt}
+use Rattle.contact_range.specs.Range.{stands}
+use Rattle.contact_range.specs.Recorded.{capacityOf, listedCount, listedAt}
 use Rattle.shares.specs.Layout as place
 
 abbrev pub workersOf : List ℕ → ℕ

@@ -10,10 +10,10 @@ use borrow.Author.Tests.{eq-eqb, ne-eqb, eqb-true, eqb-false, lt-ltb, le-ltb, le
 use lib.Dec.{eqb, ltb, leb}
 use Rattle.rules.specs.Numbers.{every}
 use Rattle.rules.specs.NumberLaws.{every-at, every-all}
-use Rattle.contact_graph.specs.Checked.{Checked}
-use Rattle.contact_graph.specs.Range.{stands}
-use Rattle.contact_graph.specs.RangeLaws.{first-of, rest-of, stands-found, listed-once}
-use Rattle.contact_graph.specs.Recorded.{capacityOf, listedCount, listedAt}
+use Rattle.contact_range.specs.Checked.{Checked}
+use Rattle.contact_range.specs.Range.{stands}
+use Rattle.contact_range.specs.RangeLaws.{first-of, rest-of, stands-found, listed-once}
+use Rattle.contact_range.specs.Recorded.{capacityOf, listedCount, listedAt}
 use Rattle.shares.specs.Counting.{sum-ones, all-ones, counted-twice}
 use Rattle.shares.specs.Shares.{workersOf, startOf, totalOf, entryAt, times, countsFit, entriesStand, activeOnce, entriesOnce, sharesFit}
 

@@ -12,9 +12,9 @@ use Rattle.rules.specs.Visit.{Verdict, vanishes, starts, stops, generates, reco
 use Rattle.contact_records.specs.Layout as record-place
 use Rattle.contact_records.specs.Recorded.{pairAt}
 use Rattle.contact_graph.specs.Calls.{removedWords}
-use Rattle.contact_graph.specs.Checked.{Checked}
-use Rattle.contact_graph.specs.Range as range
-use Rattle.contact_graph.specs.Recorded.{contactAt, graphOf}
+use Rattle.contact_range.specs.Checked.{Checked}
+use Rattle.contact_range.specs.Range as range
+use Rattle.contact_range.specs.Recorded.{contactAt, graphOf}
 use Rattle.status_pass.specs.Listed.{EventsWritten, ChangesWritten}
 use Rattle.status_pass.specs.Said.{eventSize, changeSize}
 use Rattle.status_pass.specs.Settled.{settledWords}

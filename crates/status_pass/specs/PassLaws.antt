@@ -28,15 +28,15 @@ use Rattle.contact_records.specs.Held.{Same}
 use Rattle.contact_records.specs.Layout as record-place
 use Rattle.contact_records.specs.Lists.{map-upto-same, getD-map-upto, length-map-upto}
 use Rattle.contact_records.specs.Recorded.{pairAt}
-use Rattle.contact_graph.specs.Layout as place
-use Rattle.contact_graph.specs.Recorded.{capacityOf, givenOf, listedCount, freeCount, listedAt, freeAt, contactAt, graphOf}
-use Rattle.contact_graph.specs.Range as range
-use Rattle.contact_graph.specs.RangeLaws.{counts, Fitting, fitting, stands-at, stands-found, listed-given, listed-index, listed-once, listed-fits, standing-fits, standing-below, free-given, free-once, free-not-standing, given-known, pair-once}
-use Rattle.contact_graph.specs.RangeShown.{EachInRange, fitting-test, each-in-range}
+use Rattle.contact_range.specs.Layout as place
+use Rattle.contact_range.specs.Recorded.{capacityOf, givenOf, listedCount, freeCount, listedAt, freeAt, contactAt, graphOf}
+use Rattle.contact_range.specs.Range as range
+use Rattle.contact_range.specs.RangeLaws.{counts, Fitting, fitting, stands-at, stands-found, listed-given, listed-index, listed-once, listed-fits, standing-fits, standing-below, free-given, free-once, free-not-standing, given-known, pair-once}
+use Rattle.contact_range.specs.RangeShown.{EachInRange, fitting-test, each-in-range}
 use Rattle.contact_graph.specs.Calls.{placeOf, removedWords}
-use Rattle.contact_graph.specs.Checked.{Checked}
+use Rattle.contact_range.specs.Checked.{Checked}
 use Rattle.contact_graph.specs.Effects.{contact-after, contact-room, same-or-not, word-apart}
-use Rattle.contact_graph.specs.FitsLaws.{fits-same}
+use Rattle.contact_range.specs.FitsLaws.{fits-same}
 use Rattle.contact_graph.specs.AddedGraph.{right-kept, listedPair, listed-counted}
 use Rattle.contact_graph.specs.RemovedGraph.{here, named, removed-effect, removed-in-range, removed-position, removed-at, getD-any}
 use Rattle.status_pass.specs.Settled.{settledWords}

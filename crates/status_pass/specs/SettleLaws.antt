@@ -22,8 +22,8 @@ use Rattle.contact_records.specs.Held.{Same, same-in, first-same}
 use Rattle.contact_records.specs.Layout as place
 use Rattle.contact_records.specs.Lists.{map-upto-same}
 use Rattle.contact_records.specs.Recorded.{intOf, pointsAt, manifoldAt, manifoldsAt, flagsAt, edgeAt, pairAt}
-use Rattle.contact_graph.specs.Range.{optionalFits}
-use Rattle.contact_graph.specs.RangeLaws.{Fitting}
+use Rattle.contact_range.specs.Range.{optionalFits}
+use Rattle.contact_range.specs.RangeLaws.{Fitting}
 use Rattle.contact_graph.specs.Effects.{differ, same-or-not}
 use Rattle.status_pass.specs.Settled.{startedPlace, stoppedPlace, generatingPlace, startedWords, stoppedWords, settledWords}
 

@@ -19,10 +19,10 @@ use Rattle.contact_records.specs.Apart.{pair-part}
 use Rattle.contact_records.specs.Layout as record-place
 use Rattle.contact_records.specs.Recorded.{pairAt}
 use Rattle.contact_records.specs.Written.{optionalWords}
-use Rattle.contact_graph.specs.Checked.{Checked}
-use Rattle.contact_graph.specs.Range.{stands}
-use Rattle.contact_graph.specs.RangeLaws.{standing-fits, standing-below}
-use Rattle.contact_graph.specs.Recorded.{capacityOf, contactAt}
+use Rattle.contact_range.specs.Checked.{Checked}
+use Rattle.contact_range.specs.Range.{stands}
+use Rattle.contact_range.specs.RangeLaws.{standing-fits, standing-below}
+use Rattle.contact_range.specs.Recorded.{capacityOf, contactAt}
 use Rattle.contact_graph.specs.Effects.{contact-room}
 use Rattle.status_pass.specs.Said.{eventWords, changeWords}
 use Rattle.status_pass.specs.Settled.{settledWords}

@@ -1,4 +1,4 @@
-// The status pass over the contacts whose status bit is set. From `process_status_changes` of avian's narrow_phase/system_param.rs.
+// The status pass over the contacts whose status bit is set. From `NarrowPhase::update` of avian's narrow_phase/system_param.rs.
 pub mod changes;
 pub mod events;
 pub mod pass;

@@ -1,8 +1,8 @@
 // One visit of the status pass: what it lists, and what becomes of the contact.
 ghost use mathlib.Core.Path.{_≡_};
 ghost use mathlib.Core.Bool.{true};
-ghost use Rattle.contact_graph.specs.Checked.{Checked};
-ghost use Rattle.contact_graph.specs.Range.{stands};
+ghost use Rattle.contact_range.specs.Checked.{Checked};
+ghost use Rattle.contact_range.specs.Range.{stands};
 ghost use Rattle.status_pass.specs.Pass.{settledGraph, visitedGraph, VisitReady, VisitDone};
 ghost use Rattle.status_pass.specs.Verdicts.{plainVerdict};
 use crate::changes::record_change;
@@ -10,9 +10,9 @@ use crate::events::record_event;
 use crate::settle::settle;
 use crate::verdict::Verdict;
 use crate::verdict::verdict_of;
-use contact_graph::layout::CONTACT_SIZE;
-use contact_graph::layout::contact_at;
 use contact_graph::remove::remove_standing;
+use contact_range::layout::CONTACT_SIZE;
+use contact_range::layout::contact_at;
 
 // How many events and changes are written.
 pub struct Said {

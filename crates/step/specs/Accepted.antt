@@ -12,10 +12,10 @@ use Rattle.words.specs.Words.{wordAt}
 use Rattle.collider.specs.Layout.{settingsLength, collidersLength, bodiesLength}
 use Rattle.collider.specs.Range.{settingsFit, collidersFit, bodiesFit}
 use Rattle.contact_graph.specs.CallLaws as call
-use Rattle.contact_graph.specs.Checked.{Checked}
-use Rattle.contact_graph.specs.Range.{rightLength, inRange, stands}
-use Rattle.contact_graph.specs.RangeLaws.{first-of, rest-of, stands-found}
-use Rattle.contact_graph.specs.Recorded.{capacityOf, listedCount, listedAt}
+use Rattle.contact_range.specs.Checked.{Checked}
+use Rattle.contact_range.specs.Range.{rightLength, inRange, stands}
+use Rattle.contact_range.specs.RangeLaws.{first-of, rest-of, stands-found}
+use Rattle.contact_range.specs.Recorded.{capacityOf, listedCount, listedAt}
 use Rattle.proposals.specs.Layout.{proposalSize}
 use Rattle.proposals.specs.Loaded as proposal
 use Rattle.proposals.specs.Range.{proposalFits, Proposed}

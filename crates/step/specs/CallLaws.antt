@@ -5,10 +5,10 @@ use mathlib.Core.Bool.{true, false, _&&_}
 use mathlib.Core.List.{List}
 use lib.Dec.{eqb}
 use Rattle.contact_graph.specs.CallLaws.{checked}
-use Rattle.contact_graph.specs.Checked.{Checked}
-use Rattle.contact_graph.specs.Range.{rightLength}
-use Rattle.contact_graph.specs.RangeLaws.{first-of, rest-of}
-use Rattle.contact_graph.specs.Recorded.{capacityOf}
+use Rattle.contact_range.specs.Checked.{Checked}
+use Rattle.contact_range.specs.Range.{rightLength}
+use Rattle.contact_range.specs.RangeLaws.{first-of, rest-of}
+use Rattle.contact_range.specs.Recorded.{capacityOf}
 use Rattle.contact_types.specs.Refusals.{numberOf}
 use Rattle.contact_types.specs.declared.refusal.Refusal.{Refusal}
 use Rattle.contact_types.specs.declared.refusal.Refusal.the-variants as refusal

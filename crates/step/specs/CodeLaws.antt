@@ -16,9 +16,9 @@ use Rattle.collider.specs.Recorded.{settingsOf}
 use Rattle.contact_records.specs.Lists.{getD-map-upto, length-map-upto, length-zeros}
 use Rattle.contact_records.specs.Written.{zeros}
 use Rattle.contact_graph.specs.LaidOutLaws.{zeros-at}
-use Rattle.contact_graph.specs.Range.{stands}
-use Rattle.contact_graph.specs.RangeLaws.{first-of, rest-of}
-use Rattle.contact_graph.specs.Recorded.{capacityOf}
+use Rattle.contact_range.specs.Range.{stands}
+use Rattle.contact_range.specs.RangeLaws.{first-of, rest-of}
+use Rattle.contact_range.specs.Recorded.{capacityOf}
 use Rattle.contact_update.specs.UpdateFits.{FitSettings, settings-fit-read}
 use Rattle.shares.specs.Shares.{workersOf, totalOf, entryAt, countsFit, entriesStand, activeOnce, sharesFit}
 use Rattle.status_pass.specs.Pass.{begun, passWords, RowsReady, PassDone, Left}

@@ -14,8 +14,8 @@ use Rattle.collider.specs.Layout.{settingsLength, collidersLength, bodiesLength
 use Rattle.collider.specs.Range.{settingsFit, collidersFit, bodiesFit}
 use Rattle.collider.specs.Recorded.{settingsOf}
 use Rattle.contact_types.specs.Refusals.{numberOf}
-use Rattle.contact_graph.specs.Range.{rightLength, inRange}
-use Rattle.contact_graph.specs.Recorded.{capacityOf, listedCount, listedAt}
+use Rattle.contact_range.specs.Range.{rightLength, inRange}
+use Rattle.contact_range.specs.Recorded.{capacityOf, listedCount, listedAt}
 use Rattle.proposals.specs.Layout.{proposalSize}
 use Rattle.proposals.specs.Range.{hookFits, proposalFits}
 use Rattle.contact_update.specs.After.{inputsOf}

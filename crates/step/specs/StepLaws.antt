@@ -18,10 +18,10 @@ use Rattle.data_structures.specs.BitVec.{blocksOf, setBits}
 use Rattle.data_structures.specs.NumberLaws.{numbers-pass, numbers-ascending, numbers-length}
 use Rattle.collider.specs.Recorded.{settingsOf}
 use Rattle.contact_records.specs.Lists.{map-upto-same}
-use Rattle.contact_graph.specs.Checked.{Checked}
-use Rattle.contact_graph.specs.Range.{stands}
-use Rattle.contact_graph.specs.RangeLaws.{first-of}
-use Rattle.contact_graph.specs.Recorded.{capacityOf, graphOf}
+use Rattle.contact_range.specs.Checked.{Checked}
+use Rattle.contact_range.specs.Range.{stands}
+use Rattle.contact_range.specs.RangeLaws.{first-of}
+use Rattle.contact_range.specs.Recorded.{capacityOf, graphOf}
 use Rattle.contact_update.specs.Order.{graphAfterAll, any-order}
 use Rattle.contact_update.specs.UpdateFits.{FitSettings, settings-fit-read}
 use Rattle.status_pass.specs.Pass.{begun, plainPass, PassReady, RowsReady}

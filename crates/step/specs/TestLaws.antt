@@ -6,10 +6,10 @@ use mathlib.Core.Bool.{Bool, true, false, _&&_}
 use mathlib.Core.List.{List}
 use lib.ListN.{length}
 use Rattle.contact_graph.specs.CallLaws.{checked}
-use Rattle.contact_graph.specs.Checked.{Checked}
-use Rattle.contact_graph.specs.Range.{rightLength}
-use Rattle.contact_graph.specs.RangeLaws.{RightLength, right-length, counts, listed-below}
-use Rattle.contact_graph.specs.Recorded.{capacityOf, listedCount, listedAt}
+use Rattle.contact_range.specs.Checked.{Checked}
+use Rattle.contact_range.specs.Range.{rightLength}
+use Rattle.contact_range.specs.RangeLaws.{RightLength, right-length, counts, listed-below}
+use Rattle.contact_range.specs.Recorded.{capacityOf, listedCount, listedAt}
 
 -- the first test fails, or holds and the rest decides
 pub first-fails : {a : Bool} (b : Bool) → a ≡ false → false ≡ a && b

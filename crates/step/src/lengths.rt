@@ -2,8 +2,8 @@
 ghost use mathlib.Core.Path.{_≡_};
 ghost use Prim.Native.Nat.{_≤_};
 ghost use Rattle.step.specs.Step.{given, rows, givenLong, rowsLong, lengthsFit};
-use contact_graph::layout::number_at;
-use contact_graph::range::right_length;
+use contact_range::layout::number_at;
+use contact_range::range::right_length;
 use data_structures::bit_vec::blocks;
 use proposals::layout::PROPOSAL_SIZE;
 use shares::range::ENTRIES_PLACE;

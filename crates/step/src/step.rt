@@ -7,7 +7,7 @@ use crate::lengths::lengths_fit;
 use crate::numbers::numbers_fit;
 use crate::numbers::proposals_fit;
 use collider::settings::load_settings;
-use contact_graph::layout::number_at;
+use contact_range::layout::number_at;
 use contact_types::refusal::Refusal;
 use data_structures::bit_vec::blocks;
 use shares::range::shares_fit;

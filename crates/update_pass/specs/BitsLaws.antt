@@ -18,10 +18,10 @@ use Rattle.data_structures.specs.NumberLaws.{numbers-same, numbers-append, numb
 use Rattle.data_structures.specs.WordLaws.{bit-zero}
 use Rattle.contact_records.specs.Lists.{getD-map-upto, length-map-upto, length-zeros}
 use Rattle.contact_records.specs.Written.{zeros}
-use Rattle.contact_graph.specs.Checked.{Checked}
-use Rattle.contact_graph.specs.Range.{stands}
-use Rattle.contact_graph.specs.RangeLaws.{first-of, rest-of, stands-at, stands-found, standing-below, listed-once}
-use Rattle.contact_graph.specs.Recorded.{capacityOf, listedCount, listedAt}
+use Rattle.contact_range.specs.Checked.{Checked}
+use Rattle.contact_range.specs.Range.{stands}
+use Rattle.contact_range.specs.RangeLaws.{first-of, rest-of, stands-at, stands-found, standing-below, listed-once}
+use Rattle.contact_range.specs.Recorded.{capacityOf, listedCount, listedAt}
 use Rattle.shares.specs.Shares.{workersOf, countOf, startOf, totalOf, entryAt, times, countsFit, entriesStand, activeOnce, entriesOnce, sharesFit}
 use Rattle.shares.specs.SharesLaws.{active-linear}
 use Rattle.update_pass.specs.ListsLaws.{start-within, entries-split, length-bit, length-bits-after, listedIn, listed-in-append, same-listed}

@@ -19,8 +19,8 @@ use Rattle.words.specs.Words.{floatWord}
 use Rattle.data_structures.specs.BitVec.{marked}
 use Rattle.data_structures.specs.BitVecLaws.{length-marked}
 use Rattle.contact_records.specs.Lists.{getD-map-upto, length-map-upto}
-use Rattle.contact_graph.specs.Range.{stands}
-use Rattle.contact_graph.specs.Recorded.{capacityOf}
+use Rattle.contact_range.specs.Range.{stands}
+use Rattle.contact_range.specs.Recorded.{capacityOf}
 use Rattle.shares.specs.Counting.{sum}
 use Rattle.shares.specs.Shares.{workersOf, countOf, startOf, totalOf, entryAt}
 use Rattle.update_pass.specs.Shared.{bitsAfter, distancesAfter, distancesOf, recycledOf, firstOf}

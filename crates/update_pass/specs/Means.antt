@@ -15,8 +15,8 @@ use Rattle.rules.specs.Update.{isRecycled, Updated, updated}
 use Rattle.data_structures.specs.BitVec.{numbersWith}
 use Rattle.data_structures.specs.NumberLaws.{numbers-same}
 use Rattle.contact_graph.specs.AddedGraph.{listedPair}
-use Rattle.contact_graph.specs.Range.{stands}
-use Rattle.contact_graph.specs.Recorded.{capacityOf, listedCount, listedAt, graphOf}
+use Rattle.contact_range.specs.Range.{stands}
+use Rattle.contact_range.specs.Recorded.{capacityOf, listedCount, listedAt, graphOf}
 use Rattle.contact_graph.specs.RemovedGraph.{pair-id}
 use Rattle.contact_update.specs.After.{inputsOf}
 use Rattle.contact_update.specs.Contact.{updateOf}

@@ -9,8 +9,8 @@ use Rattle.rules.specs.Inputs.{Settings}
 use Rattle.rules.specs.Update.{Updated}
 use Rattle.data_structures.specs.BitVec.{blocksOf, joined}
 use Rattle.contact_records.specs.Written.{zeros}
-use Rattle.contact_graph.specs.Range.{stands}
-use Rattle.contact_graph.specs.Recorded.{capacityOf}
+use Rattle.contact_range.specs.Range.{stands}
+use Rattle.contact_range.specs.Recorded.{capacityOf}
 use Rattle.contact_update.specs.Contact.{updateOf}
 use Rattle.contact_update.specs.Order.{graphAfterAll}
 use Rattle.contact_update.specs.UpdateFits.{FitSettings}

@@ -14,9 +14,9 @@ use Rattle.words.specs.Words.{wordAt, floatWord}
 use Rattle.data_structures.specs.BitVec.{marked}
 use Rattle.data_structures.specs.BitVecLaws.{blocks-hold}
 use Rattle.contact_records.specs.Lists.{map-upto-next, getD-map-upto, length-map-upto}
-use Rattle.contact_graph.specs.Range.{stands}
-use Rattle.contact_graph.specs.RangeLaws.{standing-below}
-use Rattle.contact_graph.specs.Recorded.{capacityOf}
+use Rattle.contact_range.specs.Range.{stands}
+use Rattle.contact_range.specs.RangeLaws.{standing-below}
+use Rattle.contact_range.specs.Recorded.{capacityOf}
 use Rattle.contact_update.specs.After.{graphAfter}
 use Rattle.contact_update.specs.Contact.{ContactReady, ContactUpdated, updateOf}
 use Rattle.contact_update.specs.Order.{graphAfterAll}

@@ -18,10 +18,10 @@ use Rattle.rules.specs.Records.{Names, Pair}
 use Rattle.rules.specs.Update.{updated}
 use Rattle.contact_records.specs.Lists.{map-upto-same}
 use Rattle.contact_graph.specs.AddedGraph.{listedPair}
-use Rattle.contact_graph.specs.Checked.{Checked}
-use Rattle.contact_graph.specs.Range.{stands}
-use Rattle.contact_graph.specs.RangeLaws.{stands-at, standing-below}
-use Rattle.contact_graph.specs.Recorded.{capacityOf, listedCount, listedAt, graphOf}
+use Rattle.contact_range.specs.Checked.{Checked}
+use Rattle.contact_range.specs.Range.{stands}
+use Rattle.contact_range.specs.RangeLaws.{stands-at, standing-below}
+use Rattle.contact_range.specs.Recorded.{capacityOf, listedCount, listedAt, graphOf}
 use Rattle.contact_graph.specs.RemovedGraph.{pair-id}
 use Rattle.proposals.specs.Layout.{proposalSize}
 use Rattle.contact_update.specs.After.{graphAfter, inputsOf}

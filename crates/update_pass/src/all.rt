@@ -3,7 +3,7 @@ ghost use Rattle.collider.specs.Views.{plainSettings};
 ghost use Rattle.update_pass.specs.Share.{SharesReady, AllTaken};
 use crate::share::update_share;
 use collider::settings::Settings;
-use contact_graph::layout::number_at;
+use contact_range::layout::number_at;
 use contact_records::zeros::store_zeros;
 use data_structures::bit_vec::blocks;
 use data_structures::bit_vec::clear;

@@ -1,12 +1,12 @@
 // A case's cache: of the two bodies as they are, or a little moved.
-use crate::bodies::rotation;
-use crate::draws::draw;
-use crate::draws::float;
-use crate::draws::low;
-use crate::draws::slot;
-use crate::places::put;
-use crate::places::word;
 use crate::record::swapped;
+use case_draws::bodies::rotation;
+use case_draws::draws::draw;
+use case_draws::draws::float;
+use case_draws::draws::low;
+use case_draws::draws::slot;
+use case_draws::places::put;
+use case_draws::places::word;
 use math::bits::bits_of;
 use math::bits::float_of;
 use math::pose::Pose;

@@ -1,30 +1,11 @@
 // A case's record of the contact, all but the cache's words.
-use crate::draws::all_but_one_in;
-use crate::draws::draw;
-use crate::draws::one_in;
-use crate::draws::past;
-use crate::draws::slot;
-use crate::manifolds::manifold_word;
-
-// 0, 0.1, 1, 2, -0.5, -0, 0.004, infinite, NaN.
-const SPECULATIVE: [u32; 16] = [
-    0x0000_0000,
-    0x0000_0000,
-    0x0000_0000,
-    0x0000_0000,
-    0x0000_0000,
-    0x3dcc_cccd,
-    0x3dcc_cccd,
-    0x3f80_0000,
-    0x3f80_0000,
-    0x3f80_0000,
-    0x4000_0000,
-    0xbf00_0000,
-    0x8000_0000,
-    0x3b83_126f,
-    0x7f80_0000,
-    0x7fc0_0000,
-];
+use case_draws::draws::all_but_one_in;
+use case_draws::draws::draw;
+use case_draws::draws::one_in;
+use case_draws::draws::past;
+use case_draws::draws::slot;
+use case_draws::manifolds::manifold_word;
+use case_draws::speculative::speculative_word;
 
 // The record names collider 1 first.
 pub fn swapped(owner: u32) -> bool {
@@ -75,7 +56,7 @@ fn head_word(owner: u32, i: u32) -> u32 {
         6 => draw(owner, 6) % 256,
         7..=17 => flag_word(owner, i),
         18 => count_change(owner),
-        19 => SPECULATIVE[(draw(owner, 19) % 16) as usize],
+        19 => speculative_word(draw(owner, 19)),
         20 => all_but_one_in(owner, 20, 10),
         36 => draw(owner, 36) % 7,
         _ => 0,

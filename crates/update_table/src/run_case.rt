@@ -1,7 +1,7 @@
 // One case through the update, where its words are in range.
 use collider::range::colliders_fit;
 use collider::settings::load_settings;
-use contact_graph::range::contact_fits;
+use contact_range::range::contact_fits;
 use contact_update::record::update_record;
 use proposals::proposal::proposal_fits;
 

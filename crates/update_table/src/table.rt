@@ -1,53 +1,22 @@
 // The cases: each is drawn into the rows, updated, and printed as its number, the status bit, recycled or not, the reported
 // distance, the number of manifolds, and a hash of what the record then records.
-use crate::bodies::body_word;
 use crate::cache::fill_cache;
-use crate::colliders::collider_word;
-use crate::draws::draw;
-use crate::draws::slot;
-use crate::hash::hash_of;
-use crate::hash::manifold_count;
-use crate::line::print_count;
-use crate::line::print_end;
-use crate::line::print_mark;
-use crate::line::print_name;
-use crate::line::print_number;
-use crate::line::print_word;
-use crate::manifolds::proposal_word;
-use crate::places::put;
 use crate::record::record_word;
 use crate::run_case::CaseOutcome;
 use crate::run_case::run_case;
-use crate::settings::setting_word;
+use case_draws::draws::draw;
+use case_draws::fill::Drawn;
+use case_draws::fill::fill;
+use case_draws::hash::hash_of;
+use case_draws::hash::manifold_count;
+use case_draws::line::print_count;
+use case_draws::line::print_end;
+use case_draws::line::print_mark;
+use case_draws::line::print_name;
+use case_draws::line::print_number;
+use case_draws::line::print_word;
+use case_draws::places::put;
 use math::bits::bits_of;
-
-// What a row, or a record in it, holds.
-enum Drawn {
-    Settings,
-    Collider(u32),
-    Body(u32),
-    Proposal,
-    Record,
-}
-
-fn drawn_word(what: Drawn, case: u32, i: u32) -> u32 {
-    match what {
-        Drawn::Settings => setting_word(case, i),
-        Drawn::Collider(n) => collider_word(case, n, i),
-        Drawn::Body(n) => body_word(case, n, i),
-        Drawn::Proposal => proposal_word(case, i),
-        Drawn::Record => record_word(case, i),
-    }
-}
-
-// As many words from a place on.
-fn fill(row: &mut [u32], from: u32, count: u32, what: Drawn, case: u32) {
-    let mut i = 0;
-    while i < count {
-        put(row, slot(from, i), drawn_word(what, case, i));
-        i += 1;
-    }
-}
 
 fn fill_colliders(colliders: &mut [u32], case: u32) {
     fill(colliders, 0, 23, Drawn::Collider(0), case);
@@ -59,8 +28,17 @@ fn fill_bodies(bodies: &mut [u32], case: u32) {
     fill(bodies, 26, 26, Drawn::Body(1), case);
 }
 
+// All but the cache's words.
+fn fill_words(record: &mut [u32], case: u32) {
+    let mut i = 0;
+    while i < 523 {
+        put(record, i, record_word(case, i));
+        i += 1;
+    }
+}
+
 fn fill_record(colliders: &[u32], bodies: &[u32], record: &mut [u32], case: u32) {
-    fill(record, 0, 523, Drawn::Record, case);
+    fill_words(record, case);
     fill_cache(colliders, bodies, record, case);
 }
 

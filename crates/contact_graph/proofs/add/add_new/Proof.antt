@@ -6,7 +6,7 @@ use borrow.Author.Needs.{needs}
 use lib.ListN.{length}
 use Rattle.rows.specs.Laws.{length-put}
 use Rattle.contact_graph.specs.AddLaws.{AddRoom, add-room, add-stored}
-use Rattle.contact_graph.specs.Recorded.{listedCount}
+use Rattle.contact_range.specs.Recorded.{listedCount}
 use Rattle.contact_graph.proofs.add.add_new.Statement.{statement}
 use Rattle.contact_graph.proofs.add.add_new.Tie as tie
 

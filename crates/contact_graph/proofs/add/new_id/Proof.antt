@@ -5,8 +5,8 @@ use native.Mathlib.Omega.{arith}
 use borrow.Author.Needs.{needs}
 use borrow.Author.Tests.{eq-eqb, ne-eqb}
 use Rattle.contact_graph.specs.Calls.{newIdOf}
-use Rattle.contact_graph.specs.Recorded.{freeAt}
-use Rattle.contact_graph.specs.RangeLaws.{Counts, counts, free-below}
+use Rattle.contact_range.specs.Recorded.{freeAt}
+use Rattle.contact_range.specs.RangeLaws.{Counts, counts, free-below}
 use Rattle.contact_graph.proofs.add.new_id.Statement.{statement}
 use Rattle.contact_graph.proofs.add.new_id.Tie as tie
 

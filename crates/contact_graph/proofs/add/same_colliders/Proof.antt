@@ -1,7 +1,7 @@
 -- `contact_graph::add::same_colliders` meets its contract. Assumes nothing.
 use borrow.Author.Needs.{needs}
 use mathlib.Core.Path.{sym, _∙_}
-use Rattle.contact_graph.specs.Range.{sameColliders}
+use Rattle.contact_range.specs.Range.{sameColliders}
 use Rattle.contact_graph.proofs.add.same_colliders.Statement.{statement}
 use Rattle.contact_graph.proofs.add.same_colliders.Tie as tie
 

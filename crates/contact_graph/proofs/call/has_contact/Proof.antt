@@ -3,7 +3,7 @@ use mathlib.Core.Path.{sym}
 use native.Mathlib.Omega.{arith}
 use borrow.Author.Needs.{needs}
 use Rattle.contact_graph.specs.CallLaws.{standing-of}
-use Rattle.contact_graph.specs.RangeLaws.{never-given}
+use Rattle.contact_range.specs.RangeLaws.{never-given}
 use Rattle.contact_graph.proofs.call.has_contact.Statement.{statement}
 use Rattle.contact_graph.proofs.call.has_contact.Tie as tie
 

@@ -5,7 +5,7 @@ use native.Mathlib.Omega.{arith}
 use borrow.Author.Needs.{needs}
 use Rattle.words.specs.Words.{wordAt}
 use Rattle.contact_graph.specs.CallLaws.{Room, removal-room}
-use Rattle.contact_graph.specs.Recorded.{contactAt, listedAt}
+use Rattle.contact_range.specs.Recorded.{contactAt, listedAt}
 use Rattle.contact_graph.proofs.remove.gap_of.Statement.{statement}
 use Rattle.contact_graph.proofs.remove.gap_of.Tie as tie
 

@@ -5,7 +5,7 @@ use native.Mathlib.Omega.{arith}
 use borrow.Author.Needs.{needs}
 use lib.ListN.{length}
 use Rattle.rows.specs.Laws.{length-put}
-use Rattle.contact_graph.specs.Recorded.{capacityOf, freeCount}
+use Rattle.contact_range.specs.Recorded.{capacityOf, freeCount}
 use Rattle.contact_graph.specs.CallLaws.{Room, removal-room, gap-closed}
 use Rattle.contact_graph.proofs.remove.remove_standing.Statement.{statement}
 use Rattle.contact_graph.proofs.remove.remove_standing.Tie as tie

@@ -4,7 +4,7 @@ use Prim.Native.Nat.{ℕ, _+_, _-_, _*_}
 use native.Mathlib.Omega.{arith}
 use Rattle.rows.specs.Rows.{part}
 use Rattle.collider.specs.Views.{plainSettings}
-use Rattle.contact_graph.specs.RangeLaws.{standing-below}
+use Rattle.contact_range.specs.RangeLaws.{standing-below}
 use Rattle.contact_update.specs.ContactLaws.{lent-part, parts-ready, own-updated}
 use borrow.Author.Needs.{needs}
 use Rattle.contact_update.proofs.contact.update_own.Statement.{statement}

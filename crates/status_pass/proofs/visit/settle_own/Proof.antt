@@ -2,7 +2,7 @@
 use mathlib.Core.Path.{_≡_}
 use Prim.Native.Nat.{_+_, _-_}
 use native.Mathlib.Omega.{arith}
-use Rattle.contact_graph.specs.RangeLaws.{standing-below}
+use Rattle.contact_range.specs.RangeLaws.{standing-below}
 use Rattle.status_pass.specs.VisitLaws.{own-length, own-settled}
 use borrow.Author.Needs.{needs}
 use Rattle.status_pass.proofs.visit.settle_own.Statement.{statement}

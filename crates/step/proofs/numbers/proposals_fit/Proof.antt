@@ -6,8 +6,8 @@ use Prim.Native.Nat.{ℕ, _-_, _*_, _≤_, _<_}
 use native.Mathlib.Omega.{arith}
 use Rattle.rules.specs.Numbers.{every}
 use Rattle.rules.specs.NumberLaws.{every-next, every-fails}
-use Rattle.contact_graph.specs.RangeSteps.{refused, passed, every-none}
-use Rattle.contact_graph.specs.Recorded.{listedAt}
+use Rattle.contact_range.specs.RangeSteps.{refused, passed, every-none}
+use Rattle.contact_range.specs.Recorded.{listedAt}
 use Rattle.proposals.specs.Range.{proposalFits}
 use Rattle.step.specs.Step.{proposalsFit}
 use Rattle.step.specs.TestLaws.{pair-places}

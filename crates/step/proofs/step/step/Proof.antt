@@ -1,5 +1,5 @@
 -- `step::step::step` meets its contract: refusals 1, 2, 6 and 7 in their turn, and the step. Assumes nothing.
-use Rattle.contact_graph.specs.RangeSteps.{refused, passed}
+use Rattle.contact_range.specs.RangeSteps.{refused, passed}
 use Rattle.step.specs.Accepted.{refused-lengths, refused-numbers, refused-proposals, refused-shares, accepted-all}
 use Rattle.step.specs.CallLaws.{step-refused, step-kept, lengths-right, lengths-given, numbers-checked}
 use borrow.Author.Needs.{needs}

@@ -10,7 +10,7 @@ use Rattle.data_structures.specs.BitVec.{blocksOf}
 use Rattle.data_structures.specs.BitVecLaws.{blocks-hold}
 use Rattle.contact_records.specs.Lists.{length-zeros}
 use Rattle.contact_records.specs.Written.{zeros}
-use Rattle.contact_graph.specs.Recorded.{capacityOf}
+use Rattle.contact_range.specs.Recorded.{capacityOf}
 use Rattle.shares.specs.Shares.{workersOf}
 use Rattle.collider.specs.Views.{plainSettings}
 use Rattle.update_pass.specs.AllLaws.{cleared-parts, SoFar, so-far-none, own-ready, so-far-next, so-far-all, so-far-few, own-places}

@@ -1,0 +1,9 @@
+pub mod Layout
+pub mod Recorded
+pub mod Range
+pub mod Pigeonhole
+pub mod RangeLaws
+pub mod RangeShown
+pub mod RangeSteps
+pub mod Checked
+pub mod FitsLaws

@@ -1,0 +1,387 @@
+// The range test of a lent graph, linear in its words: refusals 1 and 2 of the specification, condition by condition.
+ghost use mathlib.Core.Path.{_≡_};
+ghost use mathlib.Core.Bool.{true, _||_};
+ghost use Prim.Native.Nat.{_+_, _≤_, _<_};
+ghost use lib.ListN.{length};
+ghost use Rattle.rules.specs.Limits.{bodies};
+ghost use Rattle.contact_records.specs.Layout.{contactSize};
+ghost use Rattle.contact_range.specs.Range.{rightLength, optionalFits, namesFit, marksFit, manifoldsFit, contactFits, countsFit, listedGiven, namesBack, contactsFit, freeGiven, stands, isFree, freeApart, givenKnown, pairsOnce, inRange};
+ghost use Rattle.contact_range.specs.Recorded.{givenOf};
+ghost use Rattle.contact_range.specs.RangeSteps.{Counted, ListedGiven, Standing, FreeTaken, Unmarked, FreeMarked, listedFits, freeFits, pairNumber};
+ghost use Rattle.words.specs.Words.{wordAt};
+ghost use Rattle.contact_range.specs.RangeLaws.{RightLength};
+use crate::layout::BODY1_PLACE;
+use crate::layout::BODY2_PLACE;
+use crate::layout::CACHE_PLACE;
+use crate::layout::CONTACT_SIZE;
+use crate::layout::EDGE_PLACE;
+use crate::layout::FREED_PLACE;
+use crate::layout::GIVEN_PLACE;
+use crate::layout::LIST_PLACE;
+use crate::layout::LISTED_PLACE;
+use crate::layout::MANIFOLD_SIZE;
+use crate::layout::MANIFOLDS_PLACE;
+use crate::layout::MOST_CONTACTS;
+use crate::layout::PAIR_INDEX_PLACE;
+use crate::layout::contact_at;
+use crate::layout::free_at;
+use crate::layout::number_at;
+use contact_types::limits::MANIFOLDS;
+use contact_types::limits::STORED_POINTS;
+use data_structures::bit_vec::get;
+use data_structures::bit_vec::set;
+use words::row::load_word;
+
+// Collider and body numbers are below these, and a mark is below 2.
+const COLLIDERS: u32 = 256;
+
+const BODIES: u32 = 128;
+
+// The marks of a contact's edge and pair, which stand side by side.
+const MARKS: usize = 11;
+
+// Refusal 1: the capacity is 1 to 256, and the length is the one for it.
+pub fn right_length(graph: &[u32]) -> bool
+    ensures { λ r. ⌜ r ≡ rightLength (now (graph .entry)) ⌝ }
+{
+    if graph.len() == 0 {
+        return false;
+    }
+    let capacity = number_at(graph, 0);
+    if capacity == 0 {
+        return false;
+    }
+    if MOST_CONTACTS < capacity {
+        return false;
+    }
+    graph.len() == LIST_PLACE + 2 * capacity + capacity * CONTACT_SIZE
+}
+
+// A mark, and behind a mark of 1 a body's number.
+fn body_fits(graph: &[u32], at: usize) -> bool
+    requires { ⌜ at + 2 ≤ length (now graph) ⌝ }
+    ensures { λ r. ⌜ r ≡ optionalFits bodies (now (graph .entry)) at ⌝ }
+{
+    let mark = load_word(graph, at);
+    if 2 <= mark {
+        return false;
+    }
+    if mark == 1 {
+        return load_word(graph, at + 1) < BODIES;
+    }
+    true
+}
+
+// The numbers of colliders and bodies in the record that begins at `at`.
+fn names_fit(graph: &[u32], at: usize) -> bool
+    requires { ⌜ at + contactSize ≤ length (now graph) ⌝ }
+    ensures { λ r. ⌜ r ≡ namesFit (now (graph .entry)) at ⌝ }
+{
+    if COLLIDERS <= load_word(graph, at) {
+        return false;
+    }
+    if COLLIDERS <= load_word(graph, at + 1) {
+        return false;
+    }
+    if !body_fits(graph, at + BODY1_PLACE) {
+        return false;
+    }
+    body_fits(graph, at + BODY2_PLACE)
+}
+
+// The edge's two marks and the pair's nine, and the cache's.
+fn marks_fit(graph: &[u32], at: usize) -> bool
+    requires { ⌜ at + contactSize ≤ length (now graph) ⌝ }
+    ensures { λ r. ⌜ r ≡ marksFit (now (graph .entry)) at ⌝ }
+{
+    let mut k = 0;
+    while k < MARKS {
+        if 2 <= load_word(graph, at + EDGE_PLACE + k) {
+            return false;
+        }
+        k += 1;
+    }
+    load_word(graph, at + CACHE_PLACE) < 2
+}
+
+// At most 6 manifolds, and at most 4 points in each that is counted.
+fn manifolds_fit(graph: &[u32], at: usize) -> bool
+    requires { ⌜ at + contactSize ≤ length (now graph) ⌝ }
+    ensures { λ r. ⌜ r ≡ manifoldsFit (now (graph .entry)) at ⌝ }
+{
+    let count = number_at(graph, at + MANIFOLDS_PLACE);
+    if MANIFOLDS < count {
+        return false;
+    }
+    let mut k = 0;
+    while k < count {
+        let points = number_at(graph, at + MANIFOLDS_PLACE + 1 + k * MANIFOLD_SIZE);
+        if STORED_POINTS < points {
+            return false;
+        }
+        k += 1;
+    }
+    true
+}
+
+// The record that begins at `at`.
+pub fn contact_fits(graph: &[u32], at: usize) -> bool
+    requires { ⌜ at + contactSize ≤ length (now graph) ⌝ }
+    ensures { λ r. ⌜ r ≡ contactFits (now (graph .entry)) at ⌝ }
+{
+    if !names_fit(graph, at) {
+        return false;
+    }
+    if !marks_fit(graph, at) {
+        return false;
+    }
+    manifolds_fit(graph, at)
+}
+
+// Ids given, listed and free: each count is at most the capacity.
+fn counts_fit(graph: &[u32]) -> bool
+    requires { ⌜ RightLength (now graph) ⌝ }
+    ensures { λ r. ⌜ r ≡ countsFit (now (graph .entry)) ⌝ }
+{
+    let capacity = number_at(graph, 0);
+    if capacity < number_at(graph, GIVEN_PLACE) {
+        return false;
+    }
+    if capacity < number_at(graph, LISTED_PLACE) {
+        return false;
+    }
+    number_at(graph, FREED_PLACE) <= capacity
+}
+
+// A listed id was given.
+fn listed_given(graph: &[u32]) -> bool
+    requires { ⌜ Counted (now graph) ⌝ }
+    ensures { λ r. ⌜ r ≡ listedGiven (now (graph .entry)) ⌝ }
+{
+    let given = number_at(graph, GIVEN_PLACE);
+    let listed = number_at(graph, LISTED_PLACE);
+    let mut p = 0;
+    while p < listed {
+        if given <= number_at(graph, LIST_PLACE + p) {
+            return false;
+        }
+        p += 1;
+    }
+    true
+}
+
+// A list entry and its contact name each other.
+fn names_back(graph: &[u32]) -> bool
+    requires { ⌜ ListedGiven (now graph) ⌝ }
+    ensures { λ r. ⌜ r ≡ namesBack (now (graph .entry)) ⌝ }
+{
+    let listed = number_at(graph, LISTED_PLACE);
+    let mut p = 0;
+    while p < listed {
+        let id = number_at(graph, LIST_PLACE + p);
+        let at = contact_at(graph, id);
+        if number_at(graph, at + PAIR_INDEX_PLACE) != p {
+            return false;
+        }
+        p += 1;
+    }
+    true
+}
+
+// The record of each listed contact.
+fn contacts_fit(graph: &[u32]) -> bool
+    requires { ⌜ ListedGiven (now graph) ⌝ }
+    ensures { λ r. ⌜ r ≡ contactsFit (now (graph .entry)) ⌝ }
+{
+    let listed = number_at(graph, LISTED_PLACE);
+    let mut p = 0;
+    while p < listed {
+        let id = number_at(graph, LIST_PLACE + p);
+        let at = contact_at(graph, id);
+        if !contact_fits(graph, at) {
+            return false;
+        }
+        p += 1;
+    }
+    true
+}
+
+// The counts, the list, and the records of the listed contacts.
+fn listed_fit(graph: &[u32]) -> bool
+    requires { ⌜ RightLength (now graph) ⌝ }
+    ensures { λ r. ⌜ r ≡ listedFits (now (graph .entry)) ⌝ }
+{
+    if !counts_fit(graph) {
+        return false;
+    }
+    if !listed_given(graph) {
+        return false;
+    }
+    if !names_back(graph) {
+        return false;
+    }
+    contacts_fit(graph)
+}
+
+// A free id was given.
+fn free_given(graph: &[u32]) -> bool
+    requires { ⌜ Counted (now graph) ⌝ }
+    ensures { λ r. ⌜ r ≡ freeGiven (now (graph .entry)) ⌝ }
+{
+    let given = number_at(graph, GIVEN_PLACE);
+    let freed = number_at(graph, FREED_PLACE);
+    let mut k = 0;
+    while k < freed {
+        if given <= free_at(graph, k) {
+            return false;
+        }
+        k += 1;
+    }
+    true
+}
+
+// No id is free twice: each is marked, and none is marked already.
+fn free_once(graph: &[u32], marks: &mut [u64]) -> bool
+    requires { ⌜ Counted (now graph) × (freeGiven (now graph) ≡ true) × (length (now marks) ≡ 4) × Unmarked (now marks) ⌝ }
+    ensures { λ r. ⌜ FreeMarked (now (graph .entry)) (now (marks .exit)) r ⌝ }
+{
+    let freed = number_at(graph, FREED_PLACE);
+    let mut k = 0;
+    while k < freed {
+        let id = free_at(graph, k);
+        if get(marks, id) {
+            return false;
+        }
+        set(marks, id);
+        k += 1;
+    }
+    true
+}
+
+// An id stands if its record names a place of the list that names it.
+pub fn is_standing(graph: &[u32], id: usize) -> bool
+    requires { ⌜ Standing (now graph) × (id < givenOf (now graph)) ⌝ }
+    ensures { λ r. ⌜ r ≡ stands (now (graph .entry)) id ⌝ }
+{
+    let at = contact_at(graph, id);
+    let index = number_at(graph, at + PAIR_INDEX_PLACE);
+    if number_at(graph, LISTED_PLACE) <= index {
+        return false;
+    }
+    number_at(graph, LIST_PLACE + index) == id
+}
+
+// No id is both free and standing.
+fn free_apart(graph: &[u32]) -> bool
+    requires { ⌜ Standing (now graph) × (freeGiven (now graph) ≡ true) ⌝ }
+    ensures { λ r. ⌜ r ≡ freeApart (now (graph .entry)) ⌝ }
+{
+    let freed = number_at(graph, FREED_PLACE);
+    let mut k = 0;
+    while k < freed {
+        let id = free_at(graph, k);
+        if is_standing(graph, id) {
+            return false;
+        }
+        k += 1;
+    }
+    true
+}
+
+// Whether an id stands or is free; the free ones are marked.
+fn is_known(graph: &[u32], marks: &[u64], id: usize) -> bool
+    requires { ⌜ Standing (now graph) × FreeTaken (now graph) (now marks) × (id < givenOf (now graph)) ⌝ }
+    ensures { λ r. ⌜ r ≡ (stands (now (graph .entry)) id || isFree (now (graph .entry)) id) ⌝ }
+{
+    if is_standing(graph, id) {
+        return true;
+    }
+    get(marks, id)
+}
+
+// An id that was given stands or is free.
+fn given_known(graph: &[u32], marks: &[u64]) -> bool
+    requires { ⌜ Standing (now graph) × FreeTaken (now graph) (now marks) ⌝ }
+    ensures { λ r. ⌜ r ≡ givenKnown (now (graph .entry)) ⌝ }
+{
+    let given = number_at(graph, GIVEN_PLACE);
+    let mut id = 0;
+    while id < given {
+        if !is_known(graph, marks, id) {
+            return false;
+        }
+        id += 1;
+    }
+    true
+}
+
+// The free ids, and those that were given.
+fn free_fit(graph: &[u32]) -> bool
+    requires { ⌜ Standing (now graph) ⌝ }
+    ensures { λ r. ⌜ r ≡ freeFits (now (graph .entry)) ⌝ }
+{
+    if !free_given(graph) {
+        return false;
+    }
+    let mut marks = [0u64; 4];
+    if !free_once(graph, &mut marks) {
+        return false;
+    }
+    if !free_apart(graph) {
+        return false;
+    }
+    given_known(graph, &marks)
+}
+
+// A number for the pair of a contact's colliders, the same in either order.
+fn pair_number(graph: &[u32], at: usize) -> usize
+    requires { ⌜ (at + contactSize ≤ length (now graph)) × (wordAt (now graph) at < 256) × (wordAt (now graph) (at + 1) < 256) ⌝ }
+    ensures { λ r. ⌜ r ≡ pairNumber (wordAt (now (graph .entry)) at) (wordAt (now (graph .entry)) (at + 1)) ⌝ }
+{
+    let a = number_at(graph, at);
+    let b = number_at(graph, at + 1);
+    if a < b { a * 256 + b } else { b * 256 + a }
+}
+
+// The pairs differ: each is marked by its number, and none is marked already.
+fn pairs_differ(graph: &[u32], marks: &mut [u64]) -> bool
+    requires { ⌜ ListedGiven (now graph) × (contactsFit (now graph) ≡ true) × (length (now marks) ≡ 1024) × Unmarked (now marks) ⌝ }
+    ensures { λ r. ⌜ r ≡ pairsOnce (now (graph .entry)) ⌝ }
+{
+    let listed = number_at(graph, LISTED_PLACE);
+    let mut p = 0;
+    while p < listed {
+        let id = number_at(graph, LIST_PLACE + p);
+        let at = contact_at(graph, id);
+        let pair = pair_number(graph, at);
+        if get(marks, pair) {
+            return false;
+        }
+        set(marks, pair);
+        p += 1;
+    }
+    true
+}
+
+// No pair stands twice.
+fn pairs_once(graph: &[u32]) -> bool
+    requires { ⌜ ListedGiven (now graph) × (contactsFit (now graph) ≡ true) ⌝ }
+    ensures { λ r. ⌜ r ≡ pairsOnce (now (graph .entry)) ⌝ }
+{
+    let mut marks = [0u64; 1024];
+    pairs_differ(graph, &mut marks)
+}
+
+// Refusal 2 has nothing to say of the graph.
+pub fn in_range(graph: &[u32]) -> bool
+    requires { ⌜ rightLength (now graph) ≡ true ⌝ }
+    ensures { λ r. ⌜ r ≡ inRange (now (graph .entry)) ⌝ }
+{
+    if !listed_fit(graph) {
+        return false;
+    }
+    if !pairs_once(graph) {
+        return false;
+    }
+    free_fit(graph)
+}

@@ -1,0 +1,14 @@
+-- `settling_stack::hash::add_words` meets its contract. Assumes nothing.
+use borrow.Author.Needs.{needs}
+use Prim.Native.Nat.{_≤_, _-_}
+use Rattle.settling_stack.proofs.hash.add_words.Statement.{statement}
+use Rattle.settling_stack.proofs.hash.add_words.Tie as tie
+
+abbrev Inv-loop : tie.InvT-loop
+Inv-loop row from count before hash₀ k₀ hash k = k ≤ count
+
+abbrev μ-loop : tie.MeasureT-loop
+μ-loop row from count before hash₀ k₀ hash k = count - k
+
+pub add-words-spec : {M : Type 1} → statement M
+add-words-spec = tie.close (tie.spec Inv-loop μ-loop (search needs) (search needs) (search needs) (search needs) (search needs) (search needs) (search needs) (search needs))

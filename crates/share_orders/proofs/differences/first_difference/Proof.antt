@@ -1,0 +1,14 @@
+-- `share_orders::differences::first_difference` meets its contract. Assumes nothing.
+use borrow.Author.Needs.{needs}
+use Prim.Native.Nat.{_≤_, _-_}
+use Rattle.share_orders.proofs.differences.first_difference.Statement.{statement}
+use Rattle.share_orders.proofs.differences.first_difference.Tie as tie
+
+abbrev Inv-loop : tie.InvT-loop
+Inv-loop a b k₀ k = k ≤ 4320
+
+abbrev μ-loop : tie.MeasureT-loop
+μ-loop a b k₀ k = 4320 - k
+
+pub first-difference-spec : {M : Type 1} → statement M
+first-difference-spec = tie.close (tie.spec Inv-loop μ-loop (search needs) (search needs) (search needs) (search needs) (search needs) (search needs) (search needs) (search needs))

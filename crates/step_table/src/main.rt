@@ -1,0 +1,16 @@
+// Prints what lists of additions, steps and impulses give, each list on one contact graph, a line for each call. The file stdout
+// holds what avian's Rust gives for the same lists (tests/step_lists.rs).
+mod bodies;
+mod calls;
+mod choices;
+mod graph;
+mod impulses;
+mod lists;
+mod proposal_draws;
+mod request;
+mod row_draws;
+mod share_draws;
+
+fn main() {
+    lists::print_lists();
+}

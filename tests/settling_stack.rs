@@ -1,0 +1,360 @@
+// The stack of crates/settling_stack from avian's own `NarrowPhase::update` and `ContactGraph`. It makes the expected output:
+// rustc --edition 2021 -O -o /tmp/settling_stack tests/settling_stack.rs && /tmp/settling_stack > crates/settling_stack/stdout
+// `update_contacts` and what it leans on are in tests/avian.rs, the graph and the step in tests/narrow_phase.rs: their heads say what
+// is carried over from where and what stands in for what. Here are the boxes, how they move, and the lines.
+#[allow(dead_code)]
+mod avian;
+#[allow(dead_code)]
+mod narrow_phase;
+use avian::*;
+use narrow_phase::*;
+
+const CAPACITY: usize = 64;
+
+const FLOOR: usize = 0;
+
+const BOXES: usize = 8;
+
+// Coefficients and rules: friction, restitution.
+fn settings() -> Vec<u32> {
+    let floats = [1.0 / 64.0, 1.0, 0.005, 0.05, 0.99].map(bits);
+    let rest = [1, bits(0.5), 1, bits(0.1), 2];
+    [floats, rest].concat()
+}
+
+// ---- Boxes: the floor is number 0. Each is a collider with a body of its number.
+#[derive(Clone, Copy)]
+struct Placed {
+    position: [f32; 3],
+    velocity: [f32; 3],
+    rotation: [f32; 4],
+}
+
+type Stack = [Placed; 1 + BOXES];
+
+const HEIGHTS: [f32; 1 + BOXES] = [-0.5, 0.53, 1.83, 2.89, 4.04, 5.04, 6.54, 7.63, 8.65];
+
+fn stack() -> Stack {
+    HEIGHTS.map(|y| Placed {
+        position: [0.0, y, 0.0],
+        velocity: [0.0; 3],
+        rotation: [0.0, 0.0, 0.0, 1.0],
+    })
+}
+
+// Present for one in m of the numbers: mark, coefficient, rule.
+fn coefficient_words(n: usize, m: usize) -> [u32; 3] {
+    [(n % m == 1) as u32, bits(0.3), 1 + n as u32 % 5]
+}
+
+// The box is larger by 0.05 on each side. Box 2 is not there in one of a hundred steps, box 6 is a sensor for fifty in 150.
+fn collider_words(stack: &Stack, n: usize, step: u32) -> Vec<u32> {
+    let p = stack[n].position;
+    let half = |axis: usize| {
+        if n == FLOOR && axis != 1 {
+            5.05
+        } else {
+            0.55
+        }
+    };
+    let present = !(n == 2 && step % 100 == 95);
+    let sensor = n == 6 && step / 50 % 3 == 1;
+    let mut words = vec![present as u32, 1, n as u32];
+    words.extend((0..3).map(|axis| bits(p[axis] - half(axis))));
+    words.extend((0..3).map(|axis| bits(p[axis] + half(axis))));
+    words.extend(p.map(bits));
+    words.extend([1, u32::MAX]);
+    words.extend(coefficient_words(n, 2));
+    words.extend(coefficient_words(n, 3));
+    words.extend([(n == 5) as u32, bits(0.003), sensor as u32]);
+    words
+}
+
+// Box 7 has no body for four steps in a hundred.
+fn body_words(stack: &Stack, n: usize, step: u32) -> Vec<u32> {
+    let Placed {
+        position,
+        velocity,
+        rotation,
+    } = stack[n];
+    let present = !(n == 7 && step % 100 / 4 == 21);
+    let mut words = vec![present as u32, (n == FLOOR) as u32];
+    words.extend(position.map(bits));
+    words.extend(rotation.map(bits));
+    words.extend([0; 3]);
+    words.extend(velocity.map(bits));
+    words.extend([0; 3]);
+    words.extend(coefficient_words(n, 4));
+    words.extend([(n == 3) as u32, bits(0.002)]);
+    words.extend([(n == 6 || n == 8) as u32, bits(0.1), bits(0.9)]);
+    words
+}
+
+// ---- How they move.
+// Every 25 steps the boxes from 5, 4 or 3 on, every 40 steps 7 and 8.
+fn lifted(n: usize, step: u32) -> bool {
+    let above = |below: u32| n as u32 > below;
+    match (step % 25, step % 40) {
+        (15, _) => above(4 - step / 25 % 3),
+        (_, 30) => above(6),
+        _ => false,
+    }
+}
+
+fn shift(n: usize, step: u32) -> f32 {
+    match (step + 3 * n as u32) % 48 {
+        0 => 0.125,
+        24 => -0.125,
+        _ if (step + n as u32) % 2 == 0 => 0.01,
+        _ => -0.01,
+    }
+}
+
+fn move_along(placed: &mut Placed, axis: usize, to: f32) {
+    placed.velocity[axis] = (to - placed.position[axis]) * 64.0;
+    placed.position[axis] = to;
+}
+
+// From the lowest up: each falls as far as the box below lets it, and shifts to and fro. Box 4 turns about y.
+fn move_boxes(stack: &mut Stack, step: u32) {
+    let turn = [0.0, 0.05, 0.1][(step / 32 % 3) as usize];
+    let cosine = [1.0, 0.99874922, 0.99498744][(step / 32 % 3) as usize];
+    stack[4].rotation = [0.0, turn, 0.0, cosine];
+    for n in 1..=BOXES {
+        let rest = stack[n - 1].position[1] + 1.0;
+        let [x, y, _] = stack[n].position;
+        let fallen = y - 0.03;
+        let height = if lifted(n, step) {
+            y + 0.3
+        } else if fallen < rest {
+            rest
+        } else {
+            fallen
+        };
+        move_along(&mut stack[n], 1, height);
+        move_along(&mut stack[n], 0, x + shift(n, step));
+    }
+}
+
+// ---- What is added and proposed.
+fn top(placed: &Placed) -> f32 {
+    placed.position[1] + 0.5
+}
+
+fn bottom(placed: &Placed) -> f32 {
+    placed.position[1] - 0.5
+}
+
+// All neighbours at the start, then those that are near. One that stands already is refused.
+fn add_near(graph: &mut ContactGraph, stack: &Stack, step: u32) {
+    for n in 1..=BOXES {
+        if step > 0 && bottom(&stack[n]) - top(&stack[n - 1]) >= 0.09 {
+            continue;
+        }
+        let below = Entity(n as u32 - 1);
+        let above = Entity(n as u32);
+        let answer = add(
+            graph,
+            CAPACITY,
+            &Addition {
+                collider1: below,
+                collider2: above,
+                body1: Some(below),
+                body2: Some(above),
+                contact_events: n % 3 != 0,
+                modify_contacts: n % 4 == 0,
+                speculative_distance: if n % 2 == 0 { 0.05 } else { 0.0 },
+            },
+        );
+        assert!(matches!(answer, Ok(_) | Err(4)));
+    }
+}
+
+// Corner k of a box's lower side.
+fn corner(k: u32) -> [f32; 3] {
+    let side = |upper: u32| if upper == 0 { -0.5 } else { 0.5 };
+    [side(k % 2), -0.5, side(k / 2)]
+}
+
+fn point_words(stack: &Stack, below: usize, above: usize, k: u32) -> Vec<u32> {
+    let p1 = stack[below].position;
+    let p2 = stack[above].position;
+    let anchor2 = corner(k);
+    let world = [0, 1, 2].map(|axis| p2[axis] + anchor2[axis]);
+    let anchor1 = [0, 1, 2].map(|axis| world[axis] - p1[axis]);
+    let penetration = top(&stack[below]) - bottom(&stack[above]);
+    let mut words = [anchor1, anchor2, world].concat();
+    words.push(penetration);
+    let mut words: Vec<u32> = words.into_iter().map(bits).collect();
+    words.extend([below, above].map(|n| 1 + 4 * n as u32 + k));
+    words
+}
+
+// The hook says no in three of fifty steps. A manifold where the boxes are at most 0.02 apart.
+fn proposal_words(stack: &Stack, pair: &ContactPair, step: u32) -> Vec<u32> {
+    let (below, above) = (pair.collider1.0 as usize, pair.collider2.0 as usize);
+    let near = top(&stack[below]) - bottom(&stack[above]) > -0.02;
+    let mut words = vec![(step % 50 >= 3) as u32, near as u32, 4, 0, bits(1.0), 0];
+    for k in 0..4 {
+        words.extend(point_words(stack, below, above, k));
+    }
+    words
+}
+
+// Three workers: the listed pairs in turn.
+fn share_words(graph: &ContactGraph) -> Vec<u32> {
+    let ids: Vec<u32> = graph.active_pairs.iter().map(|p| p.contact_id.0).collect();
+    let own = |w: usize| -> Vec<u32> { ids.iter().skip(w).step_by(3).copied().collect() };
+    let mut words = vec![3];
+    words.extend((0..3).map(|w| own(w).len() as u32));
+    words.resize(9, 0);
+    words.extend((0..3).flat_map(own));
+    words.resize(9 + CAPACITY, 0);
+    words
+}
+
+fn put(row: &mut [u32], at: usize, words: &[u32]) {
+    row[at..at + words.len()].copy_from_slice(words);
+}
+
+fn fill(rows: &mut Rows, graph: &ContactGraph, stack: &Stack, step: u32) {
+    for n in 0..=BOXES {
+        put(&mut rows.colliders, 23 * n, &collider_words(stack, n, step));
+        put(&mut rows.bodies, 26 * n, &body_words(stack, n, step));
+    }
+    for pair in &graph.active_pairs {
+        let at = 2330 * pair.contact_id.0 as usize;
+        put(&mut rows.proposals, at, &proposal_words(stack, pair, step));
+    }
+    rows.shares = share_words(graph);
+}
+
+// ---- Impulses, made up.
+fn impulse(step: u32, id: u32, point: usize, k: u32) -> f32 {
+    let b = step as u64 * 7919 + id as u64 * 104729 + point as u64 * 1299709 + k as u64 * 15485863;
+    f32::from_bits(0x3f000000 + (b % 4294967296 % 8388608) as u32)
+}
+
+fn write_impulses(graph: &mut ContactGraph, step: u32) {
+    for pair in &mut graph.active_pairs {
+        let id = pair.contact_id.0;
+        for manifold in &mut pair.manifolds {
+            for (q, point) in manifold.points.iter_mut().enumerate() {
+                point.normal_impulse = impulse(step, id, q, 11);
+                point.warm_start_normal_impulse = impulse(step, id, q, 13);
+                point.warm_start_tangent_impulse.x = impulse(step, id, q, 14);
+                point.warm_start_tangent_impulse.y = impulse(step, id, q, 15);
+            }
+        }
+    }
+}
+
+// ---- Lines: what was said since the last one.
+struct Tally {
+    events: usize,
+    changes: usize,
+    recycled: u32,
+    event_hash: Hash,
+    change_hash: Hash,
+}
+
+impl Tally {
+    const NONE: Self = Self {
+        events: 0,
+        changes: 0,
+        recycled: 0,
+        event_hash: Hash::START,
+        change_hash: Hash::START,
+    };
+
+    fn count(&mut self, stepped: &Stepped) {
+        self.events += stepped.events.len();
+        self.changes += stepped.changes.len();
+        self.recycled += stepped.recycled;
+        self.event_hash.words(&stepped.event_words());
+        self.change_hash.words(&stepped.change_words());
+    }
+}
+
+fn print_line(graph: &ContactGraph, tally: &Tally, steps: u32) {
+    let touching = graph
+        .active_pairs
+        .iter()
+        .filter(|pair| {
+            let edge = graph.edges.edge_weight(pair.contact_id).unwrap();
+            edge.flags.contains(ContactEdgeFlags::TOUCHING)
+        })
+        .count();
+    println!(
+        "{steps}\t{}\t{touching}\t{}\t{}\t{}\t{:08X}\t{:08X}\t{:08X}",
+        graph.active_pairs.len(),
+        tally.events,
+        tally.changes,
+        tally.recycled,
+        graph_hash(graph, CAPACITY),
+        tally.event_hash.0,
+        tally.change_hash.0
+    );
+}
+
+// What the stack is to reach.
+const BRANCHES: [&str; 26] = [
+    "abandoned: angle",
+    "abandoned: distance",
+    "abandoned: no cache",
+    "added: an id never given",
+    "added: the id freed last of several",
+    "added: the one id freed",
+    "boxes overlap by growing",
+    "disjoint: end event",
+    "disjoint: no event, not touching",
+    "disjoint: no event, touching without events",
+    "disjoint: not generating",
+    "disjoint: stop",
+    "distance by speculation",
+    "hook no, marked",
+    "matched by features straight",
+    "recycled, touching",
+    "removals in a step: 1",
+    "removals in a step: several",
+    "removed: the last pair itself",
+    "removed: the last pair takes the gap",
+    "started generating, touching",
+    "started: start",
+    "started: not generating",
+    "stopped: event",
+    "stopped: stop",
+    "way: skipped",
+];
+
+fn main() {
+    let mut graph = ContactGraph::default();
+    let mut rows = Rows::new(CAPACITY);
+    rows.settings = settings();
+    let mut stack = stack();
+    let mut tally = Tally::NONE;
+    for step_number in 0..300 {
+        move_boxes(&mut stack, step_number);
+        add_near(&mut graph, &stack, step_number);
+        fill(&mut rows, &graph, &stack, step_number);
+        match step(&mut graph, CAPACITY, &rows) {
+            Ok(stepped) => tally.count(&stepped),
+            Err(number) => {
+                println!("refused\t{number}");
+                return;
+            }
+        }
+        write_impulses(&mut graph, step_number);
+        if step_number % 10 == 9 {
+            print_line(&graph, &tally, step_number + 1);
+            tally = Tally::NONE;
+        }
+    }
+    let reached = REACHED.take();
+    for (branch, count) in &reached {
+        eprintln!("{count:6} {branch}");
+    }
+    for branch in BRANCHES {
+        assert!(reached.contains_key(branch), "not reached: {branch}");
+    }
+}
