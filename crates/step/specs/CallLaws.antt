@@ -18,7 +18,7 @@ use Rattle.step.specs.declared.answer.StepReport.{StepReport}
 use Rattle.step.specs.declared.answer.StepAnswer.the-variants as answer
 
 -- no refusal has the number 0
-some-number : (r : Refusal) → eqb (numberOf r) 0 ≡ false
+pub some-number : (r : Refusal) → eqb (numberOf r) 0 ≡ false
 some-number refusal.WrongLength = refl
 some-number refusal.OutOfRange = refl
 some-number refusal.SameCollider = refl

@@ -1,0 +1,155 @@
+// The graph's calls. Each answers 0, or a refusal's number, and then no lent word changes.
+ghost use mathlib.Core.Path.{_≡_};
+ghost use lib.ListN.{length};
+ghost use Rattle.contact_records.specs.Written.{markWord, optionalWords};
+ghost use Rattle.contact_graph.specs.LookUp.{bodyOf, edgeValue};
+ghost use Rattle.contact_graph.specs.Promises.{layOutAnswer, removeAnswer};
+ghost use Rattle.contact_api.specs.Calls.{doneNumber, requestOf, edgeWords, LayOutCalled, AddCalled, LookUpCalled, RemoveCalled};
+ghost use Rattle.contact_api.specs.Layout.{requestLength};
+use contact_graph::add::AddAnswer;
+use contact_graph::add::add;
+use contact_graph::call::ContactEdge;
+use contact_graph::call::OptionalBody;
+use contact_graph::call::Request;
+use contact_graph::lay_out::LayOutAnswer;
+use contact_graph::lay_out::lay_out;
+use contact_graph::look_up::LookUpAnswer;
+use contact_graph::look_up::look_up;
+use contact_graph::remove::RemoveAnswer;
+use contact_graph::remove::remove;
+use words::row::load_float;
+use words::row::load_word;
+use words::row::store_word;
+use words::row::store_words;
+
+pub const REQUEST_LENGTH: usize = 9;
+
+pub const ADD_ANSWER_LENGTH: usize = 1;
+
+pub const LOOK_UP_ANSWER_LENGTH: usize = 10;
+
+fn lay_out_number(a: LayOutAnswer) -> u32
+    ensures { λ r. ⌜ r ≡ doneNumber (layOutAnswer a) ⌝ }
+{
+    match a {
+        LayOutAnswer::Done => 0,
+        LayOutAnswer::Refused(r) => r.number(),
+    }
+}
+
+#[no_mangle]
+pub extern "C" fn sardinerod_lay_out(graph: &mut [u32], capacity: u32) -> u32
+    ensures { λ r. ⌜ LayOutCalled (now (graph .entry)) capacity (now (graph .exit)) r ⌝ }
+{
+    lay_out_number(lay_out(graph, capacity))
+}
+
+fn load_request(words: &[u32]) -> Request
+    requires { ⌜ length (now words) ≡ requestLength ⌝ }
+    ensures { λ r. ⌜ r ≡ requestOf (now (words .entry)) ⌝ }
+{
+    Request {
+        collider1: load_word(words, 0),
+        collider2: load_word(words, 1),
+        has_body1: load_word(words, 2),
+        body1: load_word(words, 3),
+        has_body2: load_word(words, 4),
+        body2: load_word(words, 5),
+        contact_events: load_word(words, 6),
+        modify_contacts: load_word(words, 7),
+        speculative_distance: load_float(words, 8),
+    }
+}
+
+#[no_mangle]
+pub extern "C" fn sardinerod_add(graph: &mut [u32], request: &[u32], answer: &mut [u32]) -> u32
+    ensures { λ r. ⌜ AddCalled (now (graph .entry)) (now (request .entry)) (now (answer .entry)) (now (graph .exit)) (now (answer .exit)) r ⌝ }
+{
+    if request.len() != REQUEST_LENGTH {
+        return 1;
+    }
+    if answer.len() != ADD_ANSWER_LENGTH {
+        return 1;
+    }
+    let a = load_request(request);
+    match add(graph, a) {
+        AddAnswer::Added(id) => {
+            store_word(answer, 0, id.0);
+            0
+        }
+        AddAnswer::Refused(r) => r.number(),
+    }
+}
+
+fn mark_word(b: bool) -> u32
+    ensures { λ r. ⌜ r ≡ markWord b ⌝ }
+{
+    if b { 1 } else { 0 }
+}
+
+// A body's mark and its number, 0 and 0 where there is none.
+fn body_words(b: OptionalBody) -> [u32; 2]
+    ensures { λ r. ⌜ r ≡ optionalWords (bodyOf b) ⌝ }
+{
+    match b {
+        OptionalBody::Body(n) => [1, n],
+        OptionalBody::None => [0, 0],
+    }
+}
+
+fn edge_words(e: ContactEdge) -> [u32; 10]
+    ensures { λ r. ⌜ r ≡ edgeWords (edgeValue e) ⌝ }
+{
+    let id = e.id;
+    let named1 = e.body1;
+    let named2 = e.body2;
+    let body1 = body_words(named1);
+    let body2 = body_words(named2);
+    let touching = mark_word(e.touching);
+    let contact_events = mark_word(e.contact_events);
+    [
+        id.0,
+        e.collider1,
+        e.collider2,
+        body1[0],
+        body1[1],
+        body2[0],
+        body2[1],
+        e.pair_index,
+        touching,
+        contact_events,
+    ]
+}
+
+#[no_mangle]
+pub extern "C" fn sardinerod_look_up(graph: &[u32], id: u32, answer: &mut [u32]) -> u32
+    ensures { λ r. ⌜ LookUpCalled (now (graph .entry)) id (now (answer .entry)) (now (answer .exit)) r ⌝ }
+{
+    if answer.len() != LOOK_UP_ANSWER_LENGTH {
+        return 1;
+    }
+    match look_up(graph, id) {
+        LookUpAnswer::Found(edge) => {
+            let words = edge_words(edge);
+            store_words(answer, 0, &words);
+            0
+        }
+        LookUpAnswer::Refused(r) => r.number(),
+    }
+}
+
+fn remove_number(a: RemoveAnswer) -> u32
+    ensures { λ r. ⌜ r ≡ doneNumber (removeAnswer a) ⌝ }
+{
+    match a {
+        RemoveAnswer::Done => 0,
+        RemoveAnswer::Refused(r) => r.number(),
+    }
+}
+
+#[no_mangle]
+pub extern "C" fn sardinerod_remove(graph: &mut [u32], id: u32) -> u32
+    ensures { λ r. ⌜ RemoveCalled (now (graph .entry)) id (now (graph .exit)) r ⌝ }
+{
+    remove_number(remove(graph, id))
+}
