@@ -20,6 +20,105 @@ pub const LENGTHS_LENGTH: usize = 10;
 
 pub const LAYOUT_LENGTH: usize = 95;
 
+// As docs/BUFFERS.md names them.
+const LAYOUT: [u32; 95] = [
+    256, // MOST_CONTACTS
+    256, // COLLIDERS
+    128, // BODIES
+    6, // MANIFOLDS
+    4, // STORED_POINTS
+    32, // PROPOSED_POINTS
+    8, // MOST_WORKERS
+    0, // GRAPH_CAPACITY
+    1, // GRAPH_GIVEN
+    2, // GRAPH_LISTED
+    3, // GRAPH_FREED
+    4, // GRAPH_LIST
+    523, // CONTACT_SIZE
+    0, // CONTACT_COLLIDER1
+    1, // CONTACT_COLLIDER2
+    2, // CONTACT_BODY1
+    4, // CONTACT_BODY2
+    6, // CONTACT_PAIR_INDEX
+    7, // CONTACT_EDGE_FLAGS
+    9, // CONTACT_FLAGS
+    18, // CONTACT_COUNT_CHANGE
+    19, // CONTACT_SPECULATIVE_DISTANCE
+    20, // CONTACT_CACHE
+    36, // CONTACT_MANIFOLDS
+    81, // MANIFOLD_SIZE
+    1, // MANIFOLD_NORMAL
+    4, // MANIFOLD_FRICTION
+    5, // MANIFOLD_RESTITUTION
+    6, // MANIFOLD_TANGENT_VELOCITY
+    9, // MANIFOLD_POINTS
+    18, // POINT_SIZE
+    0, // POINT_ANCHOR1
+    3, // POINT_ANCHOR2
+    6, // POINT_POSITION
+    9, // POINT_PENETRATION
+    10, // POINT_BASE_PENETRATION
+    11, // POINT_NORMAL_IMPULSE
+    12, // POINT_NORMAL_SPEED
+    13, // POINT_WARM_START_NORMAL_IMPULSE
+    14, // POINT_WARM_START_TANGENT_IMPULSE
+    16, // POINT_FEATURES
+    10, // SETTINGS_LENGTH
+    0, // SETTINGS_STEP_TIME
+    1, // SETTINGS_LENGTH_UNIT
+    2, // SETTINGS_CONTACT_TOLERANCE
+    3, // SETTINGS_RECYCLE_DISTANCE
+    4, // SETTINGS_RECYCLE_COSINE
+    5, // SETTINGS_MATCH_CONTACTS
+    6, // SETTINGS_FRICTION
+    8, // SETTINGS_RESTITUTION
+    23, // COLLIDER_SIZE
+    1, // COLLIDER_BODY
+    3, // COLLIDER_LOWER
+    6, // COLLIDER_UPPER
+    9, // COLLIDER_POSITION
+    12, // COLLIDER_MEMBERSHIPS
+    13, // COLLIDER_FILTERS
+    14, // COLLIDER_FRICTION
+    17, // COLLIDER_RESTITUTION
+    20, // COLLIDER_MARGIN
+    22, // COLLIDER_SENSOR
+    26, // BODY_SIZE
+    1, // BODY_STATIC
+    2, // BODY_POSITION
+    5, // BODY_ROTATION
+    9, // BODY_CENTER_OF_MASS
+    12, // BODY_LINEAR_VELOCITY
+    15, // BODY_ANGULAR_VELOCITY
+    18, // BODY_FRICTION
+    21, // BODY_MARGIN
+    23, // BODY_SPECULATIVE_MAXIMUM
+    25, // BODY_SWEEP_RADIUS
+    2330, // PROPOSAL_SIZE
+    0, // PROPOSAL_HOOK
+    1, // PROPOSAL_COUNT
+    2, // PROPOSAL_MANIFOLDS
+    388, // PROPOSED_MANIFOLD_SIZE
+    1, // PROPOSED_MANIFOLD_NORMAL
+    4, // PROPOSED_MANIFOLD_POINTS
+    12, // PROPOSED_POINT_SIZE
+    9, // PROPOSED_POINT_PENETRATION
+    10, // PROPOSED_POINT_FEATURES
+    1, // SHARES_COUNTS
+    9, // SHARES_ENTRIES
+    8, // EVENT_SIZE
+    5, // CHANGE_SIZE
+    9, // REQUEST_LENGTH
+    1, // ADD_ANSWER_LENGTH
+    3, // STEP_ANSWER_LENGTH
+    10, // LOOK_UP_ANSWER_LENGTH
+    3, // PRUNE_NORMAL_LENGTH
+    128, // PRUNE_POINTS_LENGTH
+    5, // PRUNE_ANSWER_LENGTH
+    10, // LENGTHS_LENGTH
+    95, // LAYOUT_LENGTH
+];
+
 fn lengths_words(capacity: usize) -> [u32; 10]
     requires { ⌜ capacity ≤ 256 ⌝ }
     ensures { λ r. ⌜ r ≡ lengthsWords capacity ⌝ }
@@ -61,114 +160,7 @@ pub extern "C" fn sardinerod_lengths(capacity: u32, answer: &mut [u32]) -> u32
 fn layout_words() -> [u32; 95]
     ensures { λ r. ⌜ r ≡ layoutWords ⌝ }
 {
-    [
-        // Limits.
-        256,
-        256,
-        128,
-        6,
-        4,
-        32,
-        8,
-        // A graph: its counts, its list, a contact.
-        0,
-        1,
-        2,
-        3,
-        4,
-        523,
-        // A contact; a manifold's size.
-        0,
-        1,
-        2,
-        4,
-        6,
-        7,
-        9,
-        18,
-        19,
-        20,
-        36,
-        81,
-        // A manifold; a point's size.
-        1,
-        4,
-        5,
-        6,
-        9,
-        18,
-        // A point.
-        0,
-        3,
-        6,
-        9,
-        10,
-        11,
-        12,
-        13,
-        14,
-        16,
-        // Settings.
-        10,
-        0,
-        1,
-        2,
-        3,
-        4,
-        5,
-        6,
-        8,
-        // A collider.
-        23,
-        1,
-        3,
-        6,
-        9,
-        12,
-        13,
-        14,
-        17,
-        20,
-        22,
-        // A body.
-        26,
-        1,
-        2,
-        5,
-        9,
-        12,
-        15,
-        18,
-        21,
-        23,
-        25,
-        // A proposal, its manifolds and points.
-        2330,
-        0,
-        1,
-        2,
-        388,
-        1,
-        4,
-        12,
-        9,
-        10,
-        // Shares; an event and a change.
-        1,
-        9,
-        8,
-        5,
-        // The rows of these functions.
-        9,
-        1,
-        3,
-        10,
-        3,
-        128,
-        5,
-        10,
-        95,
-    ]
+    LAYOUT
 }
 
 #[no_mangle]
