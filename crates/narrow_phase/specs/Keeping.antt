@@ -1,25 +1,38 @@
 -- The points that stay, by their numbers: what pruning looks at, and those that it keeps. Definitions only.
-use Prim.Native.Nat.{ℕ, _<_}
+use Prim.Native.Nat.{ℕ, _≤_, _<_}
 use mathlib.Core.Path.{_≡_}
 use mathlib.Core.List.{List, [], _∷_}
 use lib.ListN.{getD}
+use Rattle.math.specs.declared.vec.Vec3.{Vec3}
 use Rattle.rules.specs.Filtering.{prunePoint}
-use Rattle.contact_types.specs.Pruned.{pointBy}
+use Rattle.rules.specs.Pruning.{kept}
+use Rattle.contact_types.specs.Pruned.{pointBy, keptOf}
 use Rattle.contact_types.specs.Views.{pointOf}
 use Rattle.contact_types.specs.declared.contact_point.ContactPoint.{ContactPoint}
 use Rattle.contact_types.specs.declared.pruning.KeptPoints.{KeptPoints}
 use Rattle.contact_types.specs.declared.pruning.PrunePoint.{PrunePoint}
 use Rattle.narrow_phase.specs.declared.manifold.ManifoldPoints.{ManifoldPoints}
 
--- The promise of `prune_view`. Past the array's end is whatever the caller says
+-- the second array holds what pruning looks at in the first points of the first. Past its end is whatever the caller says
 pub record Viewed (points : List ContactPoint) (view : List PrunePoint) (count : ℕ) : Type 0 where
   pub each : (k : ℕ) (past : ContactPoint) → k < count → pointBy view k ≡ prunePoint (pointOf (getD points k past))
 
--- The promise of `pick`.
+-- The promise of `kept_numbers`: the first four where there are no more, else those that pruning keeps.
+pub record KeptNumbers (normal : Vec3) (count : ℕ) (view : List PrunePoint) (r : KeptPoints) : Type 0 where
+  pub few : count ≤ 4 → r ≡ record { count = count; first = 0; second = 1; third = 2; fourth = 3 }
+  pub many : 4 < count → keptOf r ≡ kept normal count (pointBy view)
+  pub most : r .count ≤ 4
+
+-- The promise of `place_of`.
+pub record PlaceOf (i r : ℕ) : Type 0 where
+  pub below : r < 32
+  pub same : i < 32 → r ≡ i
+
+-- the point of that number
 pub record Picked (points : List ContactPoint) (i : ℕ) (r : ContactPoint) : Type 0 where
   pub there : (past : ContactPoint) → i < 32 → r ≡ getD points i past
 
--- The promise of `pick_kept`: each of the four places has the point of its number.
+-- each of four places has the point of its number
 pub record PickedKept (from : List ContactPoint) (k : KeptPoints) (r : ManifoldPoints) : Type 0 where
   pub first : ContactPoint
   pub second : ContactPoint

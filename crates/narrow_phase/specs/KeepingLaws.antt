@@ -4,10 +4,10 @@ use Prim.Native.Nat.{ℕ, zero, suc, _+_, _≤_, _<_}
 use native.Mathlib.Nat.{eq-or-lt-of-le}
 use native.Mathlib.Omega.{arith}
 use mathlib.Core.Logic.{inl, inr}
-use mathlib.Core.Bool.{true, false}
+use mathlib.Core.Bool.{Bool, true, false}
 use mathlib.Core.List.{List, [], _∷_, _++_, map}
 use mathlib.Core.Option.{Option, none, some}
-use borrow.Author.Tests.{le-ltb, lt-ltb}
+use borrow.Author.Tests.{le-ltb, lt-ltb, ltb-true, ltb-false}
 use lib.Dec.{ltb}
 use lib.ListN.{length, getD, set, take}
 use lib.Seq.{getD-set-same, getD-set-other}
@@ -22,8 +22,8 @@ use Rattle.contact_types.specs.Views.{pointOf}
 use Rattle.contact_types.specs.declared.contact_point.ContactPoint.{ContactPoint}
 use Rattle.contact_types.specs.declared.pruning.KeptPoints.{KeptPoints}
 use Rattle.contact_types.specs.declared.pruning.PrunePoint.{PrunePoint}
-use Rattle.narrow_phase.specs.Keeping.{Viewed, Picked, PickedKept}
-use Rattle.narrow_phase.specs.ListLaws.{view-at, length-view, in-range, none-below, one-below}
+use Rattle.narrow_phase.specs.Keeping.{Viewed, KeptNumbers, PlaceOf, Picked, PickedKept}
+use Rattle.narrow_phase.specs.ListLaws.{view-at, length-view, in-range, four-first, none-below, one-below}
 use Rattle.narrow_phase.specs.Views.{firstPoints, PrunedTo}
 use Rattle.narrow_phase.specs.declared.manifold.ManifoldPoints.{ManifoldPoints}
 
@@ -56,17 +56,23 @@ pub kept-below : (normal : Vec3) (count : ℕ) (point : ℕ → rules.PrunePoint
 unfolding rules.kept
 kept-below normal count point = let p : ℕ → rules.Projected = λ k. rules.projected normal (point k) in from-below normal count p (rules.point1 count p) refl
 
--- ---- what pruning looks at
-pub view-step : (points : List ContactPoint) (view : List PrunePoint) (k : ℕ) {q : PrunePoint} (d : ContactPoint)
-    → k < length view → k < length points → Viewed points view k → prunePointOf q ≡ prunePoint (pointOf (getD points k d)) → Viewed points (set view k q) (k + 1)
-view-step points view k {q} d h l all e = record { each = go }
+-- ---- what pruning looks at: one more point, if it counts
+pub view-both : (points : List ContactPoint) (view : List PrunePoint) (c : ℕ) (p : ContactPoint) {q : PrunePoint} {one : ℕ}
+    → one ≤ 1 → c < length points → c < length view → Viewed points view c → prunePointOf q ≡ prunePoint (pointOf p) → Viewed (set points c p) (set view c q) (c + one)
+view-both points view c p {q} {one} o l h all e = record { each = go }
   where
-    go : (j : ℕ) (past : ContactPoint) → j < k + 1 → pointBy (set view k q) j ≡ prunePoint (pointOf (getD points j past))
+    go : (j : ℕ) (past : ContactPoint) → j < c + one → pointBy (set view c q) j ≡ prunePoint (pointOf (getD (set points c p) j past))
     go j past i =
-        elim (eq-or-lt-of-le (let z : j ≤ k = omega arith in z)) [
-          | inl z ↦ ap prunePointOf (rw z (getD-set-same view k q _ h)) ∙ e ∙ ap (λ (x : ContactPoint). prunePoint (pointOf x)) (in-range points k d past l) ∙ ap (λ (m : ℕ). prunePoint (pointOf (getD points m past))) (sym z)
-          | inr z ↦ ap prunePointOf (getD-set-other view k j q _ (omega arith)) ∙ all .each j past z
+        elim (eq-or-lt-of-le (let z : j ≤ c = omega arith in z)) [
+          | inl z ↦
+              let same : getD (set points c p) j past ≡ p = rw z (getD-set-same points c p past l) in
+              ap prunePointOf (rw z (getD-set-same view c q _ h)) ∙ e ∙ ap (λ (x : ContactPoint). prunePoint (pointOf x)) (sym same)
+          | inr z ↦ ap prunePointOf (getD-set-other view c j q _ (omega arith)) ∙ all .each j past z ∙ ap (λ (x : ContactPoint). prunePoint (pointOf x)) (sym (getD-set-other points c j p past (omega arith)))
         ]
+
+-- ---- a point read at its place
+pub picked-at : (points : List ContactPoint) (i : ℕ) {r : ℕ} (d : ContactPoint) → length points ≡ 32 → PlaceOf i r → Picked points i (getD points r d)
+picked-at points i {r} d l p = record { there = λ past h. ap (λ (m : ℕ). getD points m d) (p .same h) ∙ in-range points i d past (omega (arith, l)) }
 
 -- ---- the points picked
 module _ (n : ℕ) (from : List ContactPoint) (few : n ≤ 32) (room : n ≤ length from) where
@@ -129,3 +135,30 @@ module _ (normal : Vec3) (n : ℕ) (from : List ContactPoint) (size : length fro
         few = omega (arith, p .count);
         four = ap length (p .four);
       }
+
+-- ---- both
+-- the first points, by their numbers
+first-picked : (n : ℕ) (from : List ContactPoint) (k : KeptPoints) (r : ManifoldPoints) → n ≤ 4 → length from ≡ 32 → k ≡ record { count = n; first = 0; second = 1; third = 2; fourth = 3 }
+    → PickedKept from k r → PrunedTo (firstPoints n from) r
+unfolding firstPoints
+first-picked n from k r h l e p =
+    let d = p .first in
+    let one : p .first ≡ getD from 0 d = (rw (ap (λ (x : KeptPoints). x .first) e) at (p .at1)) .there d (omega arith) in
+    let two : p .second ≡ getD from 1 d = (rw (ap (λ (x : KeptPoints). x .second) e) at (p .at2)) .there d (omega arith) in
+    let three : p .third ≡ getD from 2 d = (rw (ap (λ (x : KeptPoints). x .third) e) at (p .at3)) .there d (omega arith) in
+    let four : p .fourth ≡ getD from 3 d = (rw (ap (λ (x : KeptPoints). x .fourth) e) at (p .at4)) .there d (omega arith) in
+    let m : r .count ≡ n = p .count ∙ ap (λ (x : KeptPoints). x .count) e in
+    let got : r .points ≡ getD from 0 d ∷ getD from 1 d ∷ getD from 2 d ∷ getD from 3 d ∷ [] = p .four ∙ (λ z. one z ∷ two z ∷ three z ∷ four z ∷ []) in
+    record {
+      points = (λ z. map pointOf (take (m z) (got z))) ∙ ap (map pointOf) (four-first n from d h (omega (arith, l)));
+      few = omega (arith, m);
+      four = ap length (p .four);
+    }
+
+module _ (normal : Vec3) (n : ℕ) (from : List ContactPoint) (view : List PrunePoint) (k : KeptPoints) (r : ManifoldPoints) (few : n ≤ 32) (size : length from ≡ 32) where
+  kept-by : (t : Bool) → ltb 4 n ≡ t → Viewed from view n → KeptNumbers normal n view k → PickedKept from k r → PrunedTo (pruned normal (firstPoints n from)) r
+  kept-by true e v b p = let h = ltb-true 4 n e in pruned-many normal n from size h few view k r v (b .many h) (b .most) p
+  kept-by false e v b p = let h = ltb-false 4 n e in pruned-few normal n from h (omega (arith, size)) (first-picked n from k r h size (b .few h) p)
+
+  pub kept-picked : (ps : List Point) → firstPoints n from ≡ ps → Viewed from view n → KeptNumbers normal n view k → PickedKept from k r → PrunedTo (pruned normal ps) r
+  kept-picked ps e v b p = subst (λ (qs : List Point). PrunedTo (pruned normal qs) r) e (kept-by (ltb 4 n) refl v b p)

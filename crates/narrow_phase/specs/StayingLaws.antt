@@ -32,9 +32,8 @@ use Rattle.contact_types.specs.declared.contact_point.ContactPoint.{ContactPoin
 use Rattle.proposals.specs.Layout as place
 use Rattle.proposals.specs.Recorded.{proposedPointAt, proposedPointsAt, proposedManifoldAt, proposalAt}
 use Rattle.narrow_phase.specs.ListLaws.{view-step, length-view}
-use Rattle.narrow_phase.specs.Views.{plainSurface, firstPoints, Stayed, PrunedTo, ManifoldIs, ManifoldsAre}
+use Rattle.narrow_phase.specs.Views.{plainSurface, firstPoints, PrunedTo, ManifoldIs, ManifoldsAre}
 use Rattle.narrow_phase.specs.declared.manifold.ManifoldPoints.{ManifoldPoints}
-use Rattle.narrow_phase.specs.declared.manifold.StayingPoints.{StayingPoints}
 use Rattle.narrow_phase.specs.declared.surface.Surface.{Surface}
 
 -- ---- points
@@ -119,17 +118,14 @@ few-step list c q {one} o f l h = record { each = go }
         ]
 
 -- ---- a manifold and a proposal, put together
-pub manifold-filtered : (w : List ℕ) (at : ℕ) (t : Float) (a b : Side) (f : Surface) {n : ℕ} {normal : Vec3} (s : StayingPoints) (r : ManifoldPoints)
+pub manifold-filtered : (w : List ℕ) (at : ℕ) (t : Float) (a b : Side) (f : Surface) {n : ℕ} {normal : Vec3} (r : ManifoldPoints)
     → n ≡ wordAt w at → normal ≡ vec3At w (at + place.normalPlace)
-    → Stayed (staying t (f .distance) (map (movedPoint (plainSide a) (plainSide b) (f .margins) normal) (proposedPointsAt w (at + place.pointsPlace) n))) s
-    → PrunedTo (pruned normal (firstPoints (s .count) (s .points))) r
+    → PrunedTo (pruned normal (staying t (f .distance) (map (movedPoint (plainSide a) (plainSide b) (f .margins) normal) (proposedPointsAt w (at + place.pointsPlace) n)))) r
     → ManifoldIs (filtered t (plainSide a) (plainSide b) (plainSurface f) (proposedManifoldAt w at))
     (record { points = r .points; count = r .count; normal = normal; friction = f .friction; restitution = f .restitution; «tangent_velocity» = zero3 })
 unfolding filtered proposedManifoldAt manifoldOf pointsOf firstPoints
-manifold-filtered w at t a b f {n} {normal} s r e v p q =
-    let made =
-    q .points ∙ ap (pruned normal) (p .points)
-    ∙ (λ j. pruned (v j) (staying t (f .distance) (map (movedPoint (plainSide a) (plainSide b) (f .margins) (v j)) (proposedPointsAt w (at + place.pointsPlace) (e j))))) in
+manifold-filtered w at t a b f {n} {normal} r e v q =
+    let made = q .points ∙ (λ j. pruned (v j) (staying t (f .distance) (map (movedPoint (plainSide a) (plainSide b) (f .margins) (v j)) (proposedPointsAt w (at + place.pointsPlace) (e j))))) in
     record {
       manifold =
           λ i. record {

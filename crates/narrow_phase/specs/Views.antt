@@ -15,7 +15,6 @@ use Rattle.contact_types.specs.declared.contact_manifold.ContactManifolds.{Cont
 use Rattle.contact_types.specs.declared.contact_point.ContactPoint.{ContactPoint}
 use Rattle.contact_records.specs.Counts.{FewManifolds}
 use Rattle.narrow_phase.specs.declared.manifold.ManifoldPoints.{ManifoldPoints}
-use Rattle.narrow_phase.specs.declared.manifold.StayingPoints.{StayingPoints}
 use Rattle.narrow_phase.specs.declared.surface.Surface.{Surface}
 
 abbrev pub plainSurface : Surface → rules.Surface
@@ -25,12 +24,7 @@ plainSurface f = record { friction = f .friction; restitution = f .restitution; 
 unfoldable pub firstPoints : ℕ → List ContactPoint → List Point
 firstPoints n ps = map pointOf (take n ps)
 
--- The promise of `staying_points`: these points, at most 32.
-pub record Stayed (ps : List Point) (r : StayingPoints) : Type 0 where
-  pub points : firstPoints (r .count) (r .points) ≡ ps
-  pub few : r .count ≤ 32
-
--- The promise of `pruned_points`: these points, at most 4.
+-- The promise of `kept_points`: these points, at most 4.
 pub record PrunedTo (ps : List Point) (r : ManifoldPoints) : Type 0 where
   pub points : firstPoints (r .count) (r .points) ≡ ps
   pub few : r .count ≤ 4

@@ -13,8 +13,8 @@ ghost use Rattle.contact_types.specs.Views.{pointOf};
 ghost use Rattle.proposals.specs.Layout.{manifoldSize, proposalSize};
 ghost use Rattle.proposals.specs.Range.{Proposed};
 ghost use Rattle.proposals.specs.Recorded.{proposedPointAt, proposedPointsAt, proposedManifoldAt, proposalAt, hookAt};
-ghost use Rattle.narrow_phase.specs.Views.{plainSurface, firstPoints, Stayed, PrunedTo, ManifoldIs, ManifoldsAre};
-ghost use Rattle.narrow_phase.specs.Keeping.{Viewed, Picked, PickedKept};
+ghost use Rattle.narrow_phase.specs.Views.{plainSurface, PrunedTo, ManifoldIs, ManifoldsAre};
+ghost use Rattle.narrow_phase.specs.Keeping.{KeptNumbers, PlaceOf};
 use crate::filtering::moved_point;
 use crate::filtering::stays;
 use crate::surface::Surface;
@@ -38,12 +38,6 @@ use proposals::proposal::load_hook;
 use proposals::proposal::load_proposed_point;
 use words::row::load_word;
 use words::vec::load_vec3;
-
-// The points of a proposed manifold that stay: the first `count`.
-pub struct StayingPoints {
-    pub points: [ContactPoint; 32],
-    pub count: u32,
-}
 
 // The points of a new manifold: the first `count`.
 pub struct ManifoldPoints {
@@ -74,38 +68,6 @@ fn moved_point_at(
     moved_point(a, b, margins, normal, p)
 }
 
-// The n points from a place on, each read, moved and held against the contact distance.
-fn staying_points(
-    words: &[u32],
-    at: usize,
-    n: usize,
-    normal: Vec3,
-    step_time: f32,
-    a: Side,
-    b: Side,
-    f: Surface,
-) -> StayingPoints
-    requires { ⌜ (n ≤ 32) × (at + 384 ≤ length (now words)) ⌝ }
-    ensures { λ r. ⌜ Stayed (staying «step_time» (f .distance) (map (movedPoint (plainSide a) (plainSide b) (f .margins) normal) (proposedPointsAt (now (words .entry)) at n))) r ⌝ }
-{
-    let margins = f.margins;
-    let distance = f.distance;
-    let none = ContactPoint::new(Vec3::ZERO, Vec3::ZERO, Vec3::ZERO, 0.0);
-    let mut points = [none; 32];
-    let mut count: usize = 0;
-    let mut k = 0;
-    while k < n {
-        let p = moved_point_at(words, at + k * POINT_SIZE, a, b, margins, normal);
-        points[count] = p;
-        count += one_if(stays(step_time, distance, p));
-        k += 1;
-    }
-    StayingPoints {
-        points,
-        count: count as u32,
-    }
-}
-
 // What pruning looks at in a point.
 fn prune_point(p: ContactPoint) -> PrunePoint
     ensures { λ r. ⌜ prunePointOf r ≡ prunePoint (pointOf p) ⌝ }
@@ -117,78 +79,70 @@ fn prune_point(p: ContactPoint) -> PrunePoint
     }
 }
 
-fn prune_view(points: [ContactPoint; 32], count: usize) -> [PrunePoint; 32]
+// Four points or fewer are kept as they are, more are pruned.
+fn kept_numbers(view: [PrunePoint; 32], count: usize, normal: Vec3) -> KeptPoints
     requires { ⌜ count ≤ 32 ⌝ }
-    ensures { λ r. ⌜ Viewed points r count ⌝ }
+    ensures { λ r. ⌜ KeptNumbers normal count view r ⌝ }
 {
-    let none = PrunePoint {
-        anchor1: Vec3::ZERO,
-        penetration: 0.0,
-    };
-    let mut view = [none; 32];
+    if count <= 4 {
+        return KeptPoints {
+            count: count as u32,
+            first: 0,
+            second: 1,
+            third: 2,
+            fourth: 3,
+        };
+    }
+    prune_points(view, count, normal)
+}
+
+// A point's place in the array. No point has a number past the array's.
+fn place_of(i: u32) -> usize
+    ensures { λ r. ⌜ PlaceOf i r ⌝ }
+{
+    if i < 32 { i as usize } else { 0 }
+}
+
+// The n points from a place on, each read, moved and held against the contact distance; of those that stay, the ones that are kept.
+// The arrays stay in one function: passed by value they would be copied.
+fn kept_points(
+    words: &[u32],
+    at: usize,
+    n: usize,
+    normal: Vec3,
+    step_time: f32,
+    a: Side,
+    b: Side,
+    f: Surface,
+) -> ManifoldPoints
+    requires { ⌜ (n ≤ 32) × (at + 384 ≤ length (now words)) ⌝ }
+    ensures { λ r. ⌜ PrunedTo (pruned normal (staying «step_time» (f .distance) (map (movedPoint (plainSide a) (plainSide b) (f .margins) normal) (proposedPointsAt (now (words .entry)) at n)))) r ⌝ }
+{
+    let margins = f.margins;
+    let distance = f.distance;
+    let none = ContactPoint::new(Vec3::ZERO, Vec3::ZERO, Vec3::ZERO, 0.0);
+    let unseen = prune_point(none);
+    let mut points = [none; 32];
+    let mut view = [unseen; 32];
+    let mut count: usize = 0;
     let mut k = 0;
-    while k < count {
-        let p = points[k];
+    while k < n {
+        let p = moved_point_at(words, at + k * POINT_SIZE, a, b, margins, normal);
         let seen = prune_point(p);
-        view[k] = seen;
+        points[count] = p;
+        view[count] = seen;
+        count += one_if(stays(step_time, distance, p));
         k += 1;
     }
-    view
-}
-
-// Point i. No point has a number past the array's.
-fn pick(points: [ContactPoint; 32], i: u32) -> ContactPoint
-    ensures { λ r. ⌜ Picked points i r ⌝ }
-{
-    if i < 32 {
-        return points[i as usize];
-    }
-    points[0]
-}
-
-// The points that pruning keeps, in its order.
-fn pick_kept(points: [ContactPoint; 32], kept: KeptPoints) -> ManifoldPoints
-    ensures { λ r. ⌜ PickedKept points kept r ⌝ }
-{
-    let first = pick(points, kept.first);
-    let second = pick(points, kept.second);
-    let third = pick(points, kept.third);
-    let fourth = pick(points, kept.fourth);
+    let kept = kept_numbers(view, count, normal);
+    let first = place_of(kept.first);
+    let second = place_of(kept.second);
+    let third = place_of(kept.third);
+    let fourth = place_of(kept.fourth);
     ManifoldPoints {
-        points: [first, second, third, fourth],
+        points: [points[first], points[second], points[third], points[fourth]],
         count: kept.count,
     }
-}
-
-// Four points or fewer stay as they are.
-fn first_four(s: StayingPoints) -> ManifoldPoints
-    requires { ⌜ s .count ≤ 4 ⌝ }
-    ensures { λ r. ⌜ PrunedTo (firstPoints (s .count) (s .points)) r ⌝ }
-{
-    let points = s.points;
-    let first = points[0];
-    let second = points[1];
-    let third = points[2];
-    let fourth = points[3];
-    ManifoldPoints {
-        points: [first, second, third, fourth],
-        count: s.count,
-    }
-}
-
-// More than four are pruned.
-fn pruned_points(s: StayingPoints, normal: Vec3) -> ManifoldPoints
-    requires { ⌜ s .count ≤ 32 ⌝ }
-    ensures { λ r. ⌜ PrunedTo (pruned normal (firstPoints (s .count) (s .points))) r ⌝ }
-{
-    if s.count <= 4 {
-        return first_four(s);
-    }
-    let points = s.points;
-    let count = s.count as usize;
-    let view = prune_view(points, count);
-    let kept = prune_points(view, count, normal);
-    pick_kept(points, kept)
 }
 
 // The proposed manifold at a place, filtered and pruned.
@@ -205,8 +159,7 @@ fn filtered_manifold(
 {
     let n = load_word(words, at) as usize;
     let normal = load_vec3(words, at + NORMAL_PLACE);
-    let staying = staying_points(words, at + POINTS_PLACE, n, normal, step_time, a, b, f);
-    let few = pruned_points(staying, normal);
+    let few = kept_points(words, at + POINTS_PLACE, n, normal, step_time, a, b, f);
     let points = few.points;
     ContactManifold {
         points,

@@ -5,13 +5,13 @@ use borrow.Author.Needs.{needs}
 use Rattle.narrow_phase.proofs.manifold.filtered_manifold.Statement.{statement}
 use Rattle.narrow_phase.proofs.manifold.filtered_manifold.Tie as tie
 
-staying-points-requires : tie.Need-staying-points-requires
-staying-points-requires c κs = (omega (arith, c .before .load-word .ensures, c .before .before .before .pre .1), omega (arith, c .before .before .before .pre .0))
+kept-points-requires : tie.Need-kept-points-requires
+kept-points-requires c κs = (omega (arith, c .before .load-word .ensures, c .before .before .before .pre .1), omega (arith, c .before .before .before .pre .0))
 
 returns : tie.Need-returns
 returns c =
-    let x = c .before .before .before .before .before .before .args in
-    manifold-filtered _ _ _ (x .a) (x .b) (x .f) _ _ (c .before .before .before .before .load-word .ensures) (c .before .before .before .load-vec3 .ensures) (c .before .before .staying-points .ensures) (c .before .pruned-points .ensures)
+    let x = c .before .before .before .before .before .args in
+    manifold-filtered _ _ _ (x .a) (x .b) (x .f) _ (c .before .before .before .load-word .ensures) (c .before .before .load-vec3 .ensures) (c .before .kept-points .ensures)
 
 pub filtered-manifold-spec : {M : Type 1} → statement M
-filtered-manifold-spec = tie.close (tie.spec (search needs) (search needs) (search needs) (search needs) (search needs) staying-points-requires (search needs) returns)
+filtered-manifold-spec = tie.close (tie.spec (search needs) (search needs) (search needs) (search needs) (search needs) kept-points-requires returns)
