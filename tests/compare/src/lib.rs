@@ -1,0 +1,16 @@
+//! The static library beside avian's own Rust: seeded random lists of calls on both, compared after every call, and damaged input
+//! against the specification's table of refusals.
+
+pub mod arguments;
+pub mod branches;
+pub mod counts;
+pub mod damage;
+pub mod decode;
+pub mod differences;
+pub mod draws;
+pub mod encode;
+pub mod lists;
+pub mod oracle;
+pub mod reference;
+pub mod refusals;
+pub mod sides;

@@ -1,0 +1,28 @@
+//! avian's narrow phase and contact graph, 3D, f32, on typed values.
+//!
+//! Carried over from avianphysics/avian at commit 2c2d6934e3, MIT OR Apache-2.0: NOTICE. Each file names the one it comes from;
+//! order of statements, names and comments are the source's. Left out, as the specification does: 2D, sleeping,
+//! `CollidingEntities`, timing, debug checks.
+//!
+//! Stand-ins for what is not at hand, each after the specification: vectors and quaternions for glam (`math`), queries, `Friction`,
+//! `Restitution` and their combining rules, `SpeculativeCcd`, `BodySizeMetrics` (`components`), `Edges` for the `StableUnGraph`
+//! (`contact_graph`), one list of events in the pass's order for two writers, each event with its contact's id, and the given
+//! workers for threads (`system_param`).
+//!
+//! `reach!` counts how often a branch is reached; `reached` holds the counts that need more than the source computes. Neither
+//! changes anything, and both are compiled out without the feature `counts`.
+
+pub mod components;
+pub mod contact_graph;
+pub mod contact_types;
+pub mod data_structures;
+pub mod math;
+mod reached;
+pub mod system_param;
+
+pub use components::*;
+pub use contact_graph::*;
+pub use contact_types::*;
+pub use data_structures::*;
+pub use math::*;
+pub use system_param::*;

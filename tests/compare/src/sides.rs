@@ -1,0 +1,370 @@
+//! A list's two sides: the reference on typed values, and the library through the bindings. Each call goes to both, is answered by
+//! both, and is followed by a comparison of all that they hold.
+
+use crate::differences::{self, Compared, Difference, same};
+use crate::draws::StepSettings;
+use crate::encode;
+use crate::oracle::{self, StepRows};
+use crate::reach;
+use crate::reference::*;
+use crate::refusals::{Call, Refusals};
+use sardinerod::{Addition, PrunePoint, Refusal, Shares, World};
+
+pub struct Sides {
+    pub capacity: usize,
+    // The reference.
+    pub narrow_phase: NarrowPhase,
+    pub hooks: Hooks,
+    pub shapes: Shapes,
+    pub delta_secs: f32,
+    events: Vec<CollisionEvent>,
+    changes: Vec<ContactStatusChange>,
+    diagnostics: CollisionDiagnostics,
+    // The library.
+    pub graph: sardinerod::ContactGraph,
+    pub world: World,
+}
+
+/// 0, or the refusal's number.
+fn number<T>(answer: &Result<T, Refusal>) -> u32 {
+    answer.as_ref().err().map_or(0, |refusal| refusal.number())
+}
+
+impl Sides {
+    pub fn new(capacity: usize, settings: &StepSettings) -> Self {
+        let mut sides = Self {
+            capacity,
+            narrow_phase: NarrowPhase {
+                collider_query: Query(vec![None; 256]),
+                body_query: Query(vec![None; 128]),
+                contact_graph: ContactGraph::default(),
+                contact_status_changes: vec![],
+                contact_status_bits: BitVec::default(),
+                thread_locals: vec![],
+                config: settings.config,
+                default_friction: settings.default_friction,
+                default_restitution: settings.default_restitution,
+                length_unit: settings.length_unit,
+                combined_by: vec![[CoefficientCombine::Average; 2]; capacity],
+            },
+            hooks: Hooks(vec![false; capacity]),
+            shapes: Shapes {
+                proposed: vec![vec![]; capacity],
+                asked: vec![None; capacity],
+            },
+            delta_secs: settings.delta_secs,
+            events: vec![],
+            changes: vec![],
+            diagnostics: CollisionDiagnostics::default(),
+            graph: sardinerod::ContactGraph::new(capacity as u32).unwrap(),
+            world: World::new(capacity as u32).unwrap(),
+        };
+        sides.set_settings(settings);
+        sides
+    }
+
+    pub fn set_settings(&mut self, settings: &StepSettings) {
+        self.delta_secs = settings.delta_secs;
+        self.narrow_phase.length_unit = settings.length_unit;
+        self.narrow_phase.config = settings.config;
+        self.narrow_phase.default_friction = settings.default_friction;
+        self.narrow_phase.default_restitution = settings.default_restitution;
+        self.world.set_settings(&encode::settings(settings));
+    }
+
+    pub fn set_collider(&mut self, n: u32, collider: Option<ColliderQuery>) {
+        match &collider {
+            Some(collider) => self.world.set_collider(n, &encode::collider(collider)),
+            None => self.world.clear_collider(n),
+        }
+        .unwrap();
+        self.narrow_phase.collider_query.0[n as usize] = collider;
+    }
+
+    pub fn set_body(&mut self, n: u32, body: Option<RigidBodyQuery>) {
+        match &body {
+            Some(body) => self.world.set_body(n, &encode::body(body)),
+            None => self.world.clear_body(n),
+        }
+        .unwrap();
+        self.narrow_phase.body_query.0[n as usize] = body;
+    }
+
+    pub fn body(&self, n: u32) -> Option<&RigidBodyQuery> {
+        self.narrow_phase.body_query.0[n as usize].as_ref()
+    }
+
+    pub fn propose(&mut self, id: ContactId, hook: bool, manifolds: Vec<ContactManifold>) {
+        let proposed = encode::proposed(&manifolds);
+        self.world
+            .propose(sardinerod::ContactId(id.0), hook, &proposed)
+            .unwrap();
+        self.hooks.0[id.0 as usize] = hook;
+        self.shapes.proposed[id.0 as usize] = manifolds;
+    }
+
+    /// The ids of the active pairs, in the list's order.
+    pub fn active(&self) -> Vec<ContactId> {
+        let pairs = &self.narrow_phase.contact_graph.active_pairs;
+        pairs.iter().map(|pair| pair.contact_id).collect()
+    }
+
+    /// The rows of a step as they stand.
+    pub fn step_rows<'a>(&'a self, shares: &'a Shares) -> StepRows<'a> {
+        StepRows {
+            settings: self.world.settings_words(),
+            colliders: self.world.colliders_words(),
+            bodies: self.world.bodies_words(),
+            proposals: self.world.proposals_words(),
+            shares: shares.words(),
+            graph: self.graph.words(),
+            bits: self.graph.bits().len(),
+            events: self.graph.events_words().len(),
+            changes: self.graph.changes_words().len(),
+            distances: self.graph.distances_words().len(),
+            answer: 3,
+        }
+    }
+
+    /// All that a list compares after a call.
+    pub fn compare(&self) -> Compared {
+        let reference = &self.narrow_phase;
+        differences::graph(
+            &reference.contact_graph,
+            &reference.combined_by,
+            &self.graph,
+        )?;
+        differences::written(&self.events, &self.changes, &self.shapes.asked, &self.graph)?;
+        differences::bits(reference, self.capacity, self.graph.bits())
+    }
+
+    pub fn add(&mut self, addition: &Addition, refusals: &mut Refusals) -> Compared {
+        let expected = oracle::add(self.graph.words(), &request(addition), 1);
+        let before = (expected != 0).then(|| self.graph.clone());
+        let answer = self.graph.add(addition);
+        refusals.note(Call::Add, number(&answer));
+        same("answer of an addition", expected, number(&answer))?;
+        unchanged(before, &self.graph)?;
+        if let Ok(id) = answer {
+            let ours = add_pair(&mut self.narrow_phase.contact_graph, addition);
+            same("id of an addition", ours.0, id.0)?;
+        }
+        Ok(())
+    }
+
+    pub fn remove(&mut self, id: ContactId, refusals: &mut Refusals) -> Compared {
+        let expected = oracle::remove(self.graph.words(), id.0);
+        let before = (expected != 0).then(|| self.graph.clone());
+        let answer = self.graph.remove(sardinerod::ContactId(id.0));
+        refusals.note(Call::Remove, number(&answer));
+        same("answer of a removal", expected, number(&answer))?;
+        unchanged(before, &self.graph)?;
+        if answer.is_ok() {
+            remove_pair(&mut self.narrow_phase.contact_graph, id);
+        }
+        Ok(())
+    }
+
+    pub fn look_up(&self, id: ContactId, refusals: &mut Refusals) -> Compared {
+        let expected = oracle::look_up(self.graph.words(), id.0, 10);
+        let answer = self.graph.look_up(sardinerod::ContactId(id.0));
+        refusals.note(Call::LookUp, number(&answer));
+        same("answer of a look up", expected, number(&answer))?;
+        let ours = self.narrow_phase.contact_graph.get_edge_by_id(id);
+        match (ours, answer) {
+            (Some(ours), Ok(theirs)) => differences::looked_up(ours, &theirs),
+            (ours, theirs) => same("found", ours.is_some(), theirs.is_ok()),
+        }
+    }
+
+    /// A step by workers that are not yet known to be allowed.
+    pub fn step(
+        &mut self,
+        workers: &[Vec<ContactId>],
+        shares: &Shares,
+        refusals: &mut Refusals,
+    ) -> Compared {
+        let expected = oracle::step(&self.step_rows(shares));
+        let before = (expected != 0).then(|| self.graph.clone());
+        let answer = self.graph.step(&self.world, shares);
+        refusals.note(Call::Step, number(&answer));
+        same("answer of a step", expected, number(&answer))?;
+        unchanged(before, &self.graph)?;
+        let Ok(report) = answer else {
+            return Ok(());
+        };
+        let pairs = self.narrow_phase.contact_graph.active_pairs.len();
+        self.update(workers);
+        let recycled = self.diagnostics.recycled_count;
+        reached_in_step(workers, pairs, recycled);
+        same("events written", self.events.len(), report.events as usize)?;
+        same(
+            "changes written",
+            self.changes.len(),
+            report.changes as usize,
+        )?;
+        same("contacts recycled", recycled, report.recycled)
+    }
+
+    /// The reference's step.
+    fn update(&mut self, workers: &[Vec<ContactId>]) {
+        let graph = &self.narrow_phase.contact_graph;
+        let place = |id: &ContactId| graph.get_edge_by_id(*id).unwrap().pair_index;
+        let places: Vec<Vec<usize>> = workers
+            .iter()
+            .map(|ids| ids.iter().map(place).collect())
+            .collect();
+        let listed = graph.active_pairs.len();
+        self.events.clear();
+        self.shapes.asked.fill(None);
+        self.diagnostics.recycled_count = 0;
+        self.narrow_phase.update(
+            &mut self.events,
+            self.delta_secs,
+            &self.hooks,
+            &mut self.shapes,
+            &mut self.diagnostics,
+            &places,
+        );
+        self.changes = std::mem::take(&mut self.narrow_phase.contact_status_changes);
+        let left = self.narrow_phase.contact_graph.active_pairs.len();
+        reach!(match (listed - left) {
+            0 => "removals in a step: none",
+            1 => "removals in a step: 1",
+            _ => "removals in a step: several",
+        });
+    }
+
+    /// Writes impulses of a stored point.
+    pub fn write_impulses(&mut self, pair: usize, m: usize, p: usize, impulses: [f32; 4]) {
+        let contacts = &mut self.narrow_phase.contact_graph.active_pairs[pair];
+        let [normal, warm, tangent1, tangent2] = impulses;
+        let ours = &mut contacts.manifolds[m].points[p];
+        ours.normal_impulse = normal;
+        ours.warm_start_normal_impulse = warm;
+        ours.warm_start_tangent_impulse = Vec2 {
+            x: tangent1,
+            y: tangent2,
+        };
+        let id = sardinerod::ContactId(contacts.contact_id.0);
+        let mut theirs = self.graph.point_mut(id, m, p).unwrap();
+        theirs.set_normal_impulse(normal);
+        theirs.set_warm_start_normal_impulse(warm);
+        theirs.set_warm_start_tangent_impulse([tangent1, tangent2]);
+    }
+}
+
+/// Which points stay; the reference's points carry their numbers as features.
+pub fn prune(manifold: &ContactManifold, refusals: &mut Refusals) -> Compared {
+    let points: Vec<PrunePoint> = manifold
+        .points
+        .iter()
+        .map(|point| PrunePoint {
+            anchor1: encode::vector(point.anchor1),
+            penetration: point.penetration,
+        })
+        .collect();
+    let answer = sardinerod::prune(encode::vector(manifold.normal), &points);
+    refusals.note(Call::Prune, number(&answer));
+    let expected = oracle::prune(3, 128, points.len() as u32, 5);
+    same("answer of a prune", expected, number(&answer))?;
+    let Ok(kept) = answer else {
+        return Ok(());
+    };
+    let mut ours = manifold.clone();
+    for (k, point) in ours.points.iter_mut().enumerate() {
+        point.feature_id1 = PackedFeatureId(k as u32);
+    }
+    ours.prune_points();
+    let numbers = ours.points.iter().map(|point| point.feature_id1.0 as usize);
+    same("kept points", numbers.collect(), kept.to_vec())
+}
+
+/// An empty graph of that capacity.
+pub fn empty_graph(capacity: u32, refusals: &mut Refusals) -> Compared {
+    let answer = sardinerod::ContactGraph::new(capacity);
+    refusals.note(Call::LayOut, number(&answer));
+    let length = oracle::lengths(capacity.clamp(1, 256) as usize)[5];
+    same(
+        "answer of an empty graph",
+        oracle::lay_out(length, capacity),
+        number(&answer),
+    )?;
+    let Ok(graph) = answer else {
+        return Ok(());
+    };
+    let mut words = vec![0; length];
+    words[0] = capacity;
+    same("words of an empty graph", &words[..], graph.words())
+}
+
+fn unchanged(
+    before: Option<sardinerod::ContactGraph>,
+    after: &sardinerod::ContactGraph,
+) -> Compared {
+    match before {
+        Some(before) if before != *after => {
+            Err(Difference::new("refused call", "no change", "a change"))
+        }
+        _ => Ok(()),
+    }
+}
+
+fn request(a: &Addition) -> [u32; 9] {
+    [
+        a.collider1,
+        a.collider2,
+        a.body1.is_some() as u32,
+        a.body1.unwrap_or(0),
+        a.body2.is_some() as u32,
+        a.body2.unwrap_or(0),
+        a.contact_events as u32,
+        a.modify_contacts as u32,
+        a.speculative_distance.to_bits(),
+    ]
+}
+
+/// The reference's addition.
+pub fn add_pair(graph: &mut ContactGraph, a: &Addition) -> ContactId {
+    let (body1, body2) = (a.body1.map(Entity), a.body2.map(Entity));
+    let mut contact_edge = ContactEdge::new(Entity(a.collider1), Entity(a.collider2));
+    contact_edge.body1 = body1;
+    contact_edge.body2 = body2;
+    contact_edge
+        .flags
+        .set(ContactEdgeFlags::CONTACT_EVENTS, a.contact_events);
+    let added = graph.add_edge_with(contact_edge, |pair| {
+        pair.body1 = body1;
+        pair.body2 = body2;
+        pair.flags
+            .set(ContactPairFlags::MODIFY_CONTACTS, a.modify_contacts);
+        pair.speculative_distance = a.speculative_distance;
+    });
+    added.unwrap()
+}
+
+/// The reference's removal.
+pub fn remove_pair(graph: &mut ContactGraph, id: ContactId) {
+    let edge = graph.get_edge_by_id(id).unwrap();
+    let key = PairKey::new(edge.collider1.index_u32(), edge.collider2.index_u32());
+    graph.remove_edge_by_id(&key, id);
+}
+
+fn reached_in_step(workers: &[Vec<ContactId>], pairs: usize, recycled: u32) {
+    reach!("workers: 1" + (workers.len() - 1));
+    if workers.iter().any(|ids| ids.is_empty()) {
+        reach!("a worker without contacts");
+    }
+    reach!(match pairs {
+        0 => "pairs in a step: none",
+        1 => "pairs in a step: 1",
+        2..=8 => "pairs in a step: 2 to 8",
+        9..=64 => "pairs in a step: 9 to 64",
+        _ => "pairs in a step: over 64",
+    });
+    reach!(match (recycled as usize) {
+        0 => "none recycled",
+        n if n == pairs => "all recycled",
+        _ => "some recycled",
+    });
+}
