@@ -18,8 +18,8 @@ use Rattle.contact_records.specs.Layout as place
 use Rattle.contact_records.specs.Lists.{length-map-upto}
 use Rattle.contact_records.specs.Recorded.{pointsAt, manifoldAt, manifoldsAt}
 use Rattle.contact_records.specs.Written.{markWord}
-use Rattle.narrow_phase.specs.Motions.{motionOf}
-use Rattle.narrow_phase.specs.declared.recycling.Motion.{Motion}
+use Rattle.contact_parameters.specs.Motions.{motionOf}
+use Rattle.contact_parameters.specs.declared.recycling.Motion.{Motion}
 use Rattle.contact_update.specs.After.{pointsPut, manifoldsPut}
 use Rattle.contact_update.specs.PointLaws.{manifold-recycled}
 use Rattle.contact_update.specs.PutLaws.{manifolds-step, Left, left-step, manifold-left, manifold-at, manifolds-length}

@@ -15,9 +15,9 @@ use Rattle.rules.specs.Sides.{Side}
 use Rattle.words.specs.Words.{floatWord}
 use Rattle.contact_types.specs.Views.{pointOf}
 use Rattle.contact_types.specs.declared.contact_point.ContactPoint.{ContactPoint}
+use Rattle.contact_parameters.specs.Motions.{motionOf, penetrationAfter, recycled-by}
+use Rattle.contact_parameters.specs.declared.recycling.Motion.{Motion}
 use Rattle.narrow_phase.specs.ListLaws.{view-at, length-view}
-use Rattle.narrow_phase.specs.Motions.{motionOf, penetrationAfter, recycled-by}
-use Rattle.narrow_phase.specs.declared.recycling.Motion.{Motion}
 use Rattle.contact_update.specs.After.{pointsPut}
 use Rattle.contact_update.specs.PutLaws.{points-step}
 use Rattle.contact_update.specs.Updates.{pointAfter, manifoldAfter}

@@ -22,8 +22,9 @@ use Rattle.contact_records.specs.declared.state.ContactPairFlags.{ContactPairFl
 use Rattle.contact_types.specs.Views.{manifoldsOf}
 use Rattle.contact_types.specs.declared.contact_manifold.ContactManifolds.{ContactManifolds}
 use Rattle.contact_types.specs.declared.contact_manifold.ContactRecyclingCache.{ContactRecyclingCache}
-use Rattle.narrow_phase.specs.Views.{plainSurface, ManifoldsAre}
-use Rattle.narrow_phase.specs.declared.surface.Surface.{Surface}
+use Rattle.contact_parameters.specs.Views.{plainSurface}
+use Rattle.contact_parameters.specs.declared.surface.Surface.{Surface}
+use Rattle.narrow_phase.specs.Views.{ManifoldsAre}
 use Rattle.contact_update.specs.Updates.{RenewedTo}
 use Rattle.contact_update.specs.declared.renewal.OldState.{OldState}
 

@@ -23,9 +23,9 @@ use Rattle.contact_types.specs.Views.{manifoldsOf}
 use Rattle.contact_range.specs.RangeLaws.{Fitting}
 use Rattle.proposals.specs.Layout.{proposalSize}
 use Rattle.proposals.specs.Range.{Proposed}
-use Rattle.narrow_phase.specs.Motions.{penetrationAfter}
+use Rattle.contact_parameters.specs.Motions.{penetrationAfter}
+use Rattle.contact_parameters.specs.declared.recycling.Motion.{Motion}
 use Rattle.narrow_phase.specs.Views.{ManifoldsAre}
-use Rattle.narrow_phase.specs.declared.recycling.Motion.{Motion}
 use Rattle.contact_update.specs.After.{afterWords, recordUpdated}
 use Rattle.contact_update.specs.declared.record.Outcome.{Outcome}
 use Rattle.contact_update.specs.declared.renewal.OldState.{OldState}

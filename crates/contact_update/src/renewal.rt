@@ -19,6 +19,7 @@ ghost use Rattle.contact_update.specs.Updates.{RenewsAs};
 use collider::collider_record::ColliderRecord;
 use collider::settings::Settings;
 use collider::side::Side;
+use contact_parameters::surface::surface_of;
 use contact_records::manifold::store_manifolds;
 use contact_records::state::ContactPairFlags;
 use contact_records::state::RecyclingCache;
@@ -34,7 +35,6 @@ use narrow_phase::renewing::is_enabled;
 use narrow_phase::renewing::match_manifolds;
 use narrow_phase::renewing::renewed_flags;
 use narrow_phase::renewing::status_bit;
-use narrow_phase::surface::surface_of;
 use words::row::store_word;
 
 // What an update starts from.

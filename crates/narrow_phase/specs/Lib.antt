@@ -1,5 +1,3 @@
-pub mod Motions
-pub mod RecycleLaws
 pub mod Views
 pub mod Keeping
 pub mod ListLaws

@@ -23,6 +23,8 @@ use Rattle.rules.specs.Update.{hooked, remaining}
 use Rattle.words.specs.Words.{wordAt, vec3At}
 use Rattle.collider.specs.Views.{plainSide}
 use Rattle.collider.specs.declared.side.Side.{Side}
+use Rattle.contact_parameters.specs.Views.{plainSurface}
+use Rattle.contact_parameters.specs.declared.surface.Surface.{Surface}
 use Rattle.contact_records.specs.Counts.{FewPoints}
 use Rattle.contact_records.specs.Lists.{map-upto-next}
 use Rattle.contact_types.specs.Views.{pointOf, pointsOf, manifoldOf, manifoldsOf}
@@ -32,9 +34,8 @@ use Rattle.contact_types.specs.declared.contact_point.ContactPoint.{ContactPoin
 use Rattle.proposals.specs.Layout as place
 use Rattle.proposals.specs.Recorded.{proposedPointAt, proposedPointsAt, proposedManifoldAt, proposalAt}
 use Rattle.narrow_phase.specs.ListLaws.{view-step, length-view}
-use Rattle.narrow_phase.specs.Views.{plainSurface, firstPoints, PrunedTo, ManifoldIs, ManifoldsAre}
+use Rattle.narrow_phase.specs.Views.{firstPoints, PrunedTo, ManifoldIs, ManifoldsAre}
 use Rattle.narrow_phase.specs.declared.manifold.ManifoldPoints.{ManifoldPoints}
-use Rattle.narrow_phase.specs.declared.surface.Surface.{Surface}
 
 -- ---- points
 module _ (t d : Float) where

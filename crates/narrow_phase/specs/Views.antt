@@ -8,17 +8,12 @@ use lib.ListN.{length, take}
 use Rattle.rules.specs.Filtering.{isEmpty}
 use Rattle.rules.specs.Matching.{byNumber, matchAll}
 use Rattle.rules.specs.Records.{Point, Manifold}
-use Rattle.rules.specs.Surface as rules
 use Rattle.contact_types.specs.Views.{pointOf, manifoldOf, manifoldsOf}
 use Rattle.contact_types.specs.declared.contact_manifold.ContactManifold.{ContactManifold}
 use Rattle.contact_types.specs.declared.contact_manifold.ContactManifolds.{ContactManifolds}
 use Rattle.contact_types.specs.declared.contact_point.ContactPoint.{ContactPoint}
 use Rattle.contact_records.specs.Counts.{FewManifolds}
 use Rattle.narrow_phase.specs.declared.manifold.ManifoldPoints.{ManifoldPoints}
-use Rattle.narrow_phase.specs.declared.surface.Surface.{Surface}
-
-abbrev pub plainSurface : Surface → rules.Surface
-plainSurface f = record { friction = f .friction; restitution = f .restitution; margins = f .margins; distance = f .distance }
 
 -- the first points of an array
 unfoldable pub firstPoints : ℕ → List ContactPoint → List Point

@@ -1,7 +1,4 @@
-// One pair's update. From avian's narrow_phase/system_param.rs.
-pub mod distance;
+// A pair's full update: its points moved, filtered and pruned, warm starting, cache and flags. From avian's narrow_phase/system_param.rs.
 pub mod filtering;
 pub mod manifold;
-pub mod recycling;
 pub mod renewing;
-pub mod surface;

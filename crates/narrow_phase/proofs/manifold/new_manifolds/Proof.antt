@@ -14,7 +14,7 @@ use Rattle.contact_types.specs.Views.{manifoldOf}
 use Rattle.proposals.specs.Recorded.{proposedManifoldAt}
 use Rattle.narrow_phase.specs.ListLaws.{one-most}
 use Rattle.narrow_phase.specs.StayingLaws.{keep-step, few-step, manifolds-kept}
-use Rattle.narrow_phase.specs.Views.{plainSurface}
+use Rattle.contact_parameters.specs.Views.{plainSurface}
 use borrow.Author.Needs.{needs}
 use Rattle.narrow_phase.proofs.manifold.new_manifolds.Statement.{statement}
 use Rattle.narrow_phase.proofs.manifold.new_manifolds.Tie as tie

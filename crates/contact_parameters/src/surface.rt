@@ -1,0 +1,43 @@
+// What the points of a pair share: friction, restitution, margins and the contact distance. Rules 7 and 8.
+ghost use mathlib.Core.Path.{_≡_};
+ghost use Rattle.rules.specs.Surface.{surfaceOf};
+ghost use Rattle.collider.specs.Views.{plainSettings, plainCollider, plainSide};
+ghost use Rattle.contact_parameters.specs.Views.{plainSurface};
+use crate::distance::contact_distance;
+use collider::collider_record::ColliderRecord;
+use collider::settings::Settings;
+use collider::side::Side;
+use collider::surface::combine;
+use collider::surface::friction_of;
+use collider::surface::margin_of;
+use collider::surface::restitution_of;
+
+pub struct Surface {
+    pub friction: f32,
+    pub restitution: f32,
+    // The two margins' sum.
+    pub margins: f32,
+    pub distance: f32,
+}
+
+pub fn surface_of(
+    s: Settings,
+    c1: ColliderRecord,
+    c2: ColliderRecord,
+    a: Side,
+    b: Side,
+    given: f32,
+) -> Surface
+    ensures { λ r. ⌜ plainSurface r ≡ surfaceOf (plainSettings s) (plainCollider c1) (plainCollider c2) (plainSide a) (plainSide b) given ⌝ }
+{
+    let friction1 = friction_of(s, c1, a);
+    let friction2 = friction_of(s, c2, b);
+    let restitution1 = restitution_of(s, c1);
+    let restitution2 = restitution_of(s, c2);
+    Surface {
+        friction: combine(friction1, friction2),
+        restitution: combine(restitution1, restitution2),
+        margins: margin_of(c1, a) + margin_of(c2, b),
+        distance: contact_distance(s, a, b, given),
+    }
+}
