@@ -27,30 +27,41 @@ const WORKERS: [usize; 2] = [1, 8];
 struct Case {
     name: &'static str,
     recycle_distance: f32,
+    /// The bodies have moved and turned a little since the contacts were made.
+    moved: bool,
     points: usize,
 }
 
-const CASES: [Case; 3] = [
+const CASES: [Case; 4] = [
     Case {
-        name: "all recycled",
+        name: "recycled, at rest",
         recycle_distance: 0.05,
+        moved: false,
+        points: 4,
+    },
+    Case {
+        name: "recycled, moved",
+        recycle_distance: 0.05,
+        moved: true,
         points: 4,
     },
     Case {
         name: "none recycled",
         recycle_distance: 0.0,
+        moved: false,
         points: 4,
     },
     Case {
         name: "32 points pruned",
         recycle_distance: 0.0,
+        moved: false,
         points: 32,
     },
 ];
 
 fn main() {
     println!("ns for a step, median of {BATCHES} batches; 4 stored points for each contact");
-    println!("case              contacts  workers      Rust   library  library / Rust");
+    println!("case               contacts  workers      Rust   library  library / Rust");
     for case in CASES {
         for workers in WORKERS {
             measure(case, workers);
@@ -70,12 +81,12 @@ fn measure(case: Case, workers: usize) {
         let rust = median(&run.rust_times);
         let library = median(&run.library_times);
         let ratio = median_ratio(&run.library_times, &run.rust_times);
-        println!("{name:16}  {contacts:8}  {workers:7}  {rust:8.0}  {library:8.0}  {ratio:14.2}");
+        println!("{name:17}  {contacts:8}  {workers:7}  {rust:8.0}  {library:8.0}  {ratio:14.2}");
     }
     let [first, _, last] = &runs;
     let rust = median_ratio(&last.rust_times, &first.rust_times);
     let library = median_ratio(&last.library_times, &first.library_times);
-    println!("{name:16}  16 to 256  {workers:6}  {rust:7.1}x  {library:7.1}x");
+    println!("{name:17}  16 to 256  {workers:6}  {rust:7.1}x  {library:7.1}x");
     runs.into_iter().for_each(Run::check);
 }
 
@@ -110,6 +121,10 @@ impl Run {
         let shares = Shares::dealt(&sides.graph, workers);
         let hands = hands(&sides, workers);
         for _ in 0..2 {
+            step_and_compare(&mut sides, &hands, &shares);
+        }
+        if case.moved {
+            move_bodies(&mut sides);
             step_and_compare(&mut sides, &hands, &shares);
         }
         let recycled = match case.recycle_distance {
@@ -355,6 +370,21 @@ fn body(n: usize) -> RigidBodyQuery {
         collision_margin: None,
         speculative_ccd: Some(SpeculativeCcd { max_distance: 0.1 }),
         size_metrics: BodySizeMetrics { sweep_radius: 1.0 },
+    }
+}
+
+/// By less than the recycle distance: the roots of rule 4 are then not those of 0.
+fn move_bodies(sides: &mut Sides) {
+    for n in 0..128 {
+        let still = body(n);
+        let step = (n % 7) as f32 * 0.0005;
+        let half = 0.05 + n as f32 * 0.0001 + (n % 3) as f32 * 0.0002;
+        let moved = RigidBodyQuery {
+            position: still.position + vec3(step, -step, 0.5 * step),
+            rotation: quat(0.0, 0.0, half.sin(), half.cos()),
+            ..still
+        };
+        sides.set_body(n as u32, Some(moved));
     }
 }
 
