@@ -1,15 +1,13 @@
 // Whether a pair's contacts are recycled, and how: rules 4 and 5. The recycle block of avian's `update_contacts`.
 ghost use mathlib.Core.Path.{_≡_};
 ghost use Rattle.rules.specs.Recycling.{scaledTolerance, scaledRecycle, toleranceFor, radius, leastTurn, squaredMotion, arc, recycles};
-ghost use Rattle.contact_parameters.specs.Motions.{motionOf, penetrationAfter};
+ghost use Rattle.contact_parameters.specs.Motions.{motionOf};
 ghost use Rattle.collider.specs.Views.{plainSettings, plainSide};
 ghost use Rattle.contact_records.specs.StateViews.{cachedOf, cacheOf};
-ghost use Rattle.contact_types.specs.Views.{pointOf};
 use collider::settings::Settings;
 use collider::side::Side;
 use contact_records::state::RecyclingCache;
 use contact_types::contact_manifold::ContactRecyclingCache;
-use contact_types::contact_point::ContactPoint;
 use math::choose::maximum;
 use math::choose::minimum;
 use math::mat::Mat3;
@@ -114,14 +112,4 @@ pub fn motion_of(a: Side, b: Side, k: ContactRecyclingCache) -> Motion
         turn2: Mat3::from_quat(delta2),
         between: centres.add(positions),
     }
-}
-
-// The anchors stay, and the separation follows the bodies.
-pub fn recycled_penetration(m: Motion, normal: Vec3, p: ContactPoint) -> f32
-    ensures { λ r. ⌜ r ≡ penetrationAfter m normal (pointOf p) ⌝ }
-{
-    let r1 = m.turn1.mul_vec3(p.anchor1);
-    let r2 = m.turn2.mul_vec3(p.anchor2);
-    let delta = m.between.add(r2.sub(r1));
-    p.base_penetration - delta.dot(normal)
 }

@@ -6,47 +6,54 @@ ghost use lib.ListN.{length};
 ghost use Rattle.rows.specs.Rows.{put};
 ghost use Rattle.rules.specs.Recycling.{recycledManifold};
 ghost use Rattle.collider.specs.Views.{plainSide};
-ghost use Rattle.contact_types.specs.Views.{pointsOf};
 ghost use Rattle.contact_records.specs.Counts.{Counted};
 ghost use Rattle.contact_records.specs.Layout.{contactSize, manifoldsPlace};
-ghost use Rattle.contact_records.specs.Recorded.{manifoldsAt};
+ghost use Rattle.contact_records.specs.Recorded.{pointAt, pointsAt, manifoldsAt};
 ghost use Rattle.contact_records.specs.StateViews.{cachedOf};
 ghost use Rattle.contact_records.specs.Written.{markWord};
+ghost use Rattle.contact_parameters.specs.Motions.{penetrationAfter};
 ghost use Rattle.contact_update.specs.After.{pointsPut, manifoldsPut};
 ghost use Rattle.contact_update.specs.Updates.{pointAfter, manifoldAfter};
 use collider::side::Side;
 use contact_parameters::recycling::Motion;
 use contact_parameters::recycling::motion_of;
-use contact_parameters::recycling::recycled_penetration;
 use contact_range::layout::MANIFOLD_SIZE;
 use contact_range::layout::MANIFOLDS_PLACE;
-use contact_records::manifold::load_manifold;
 use contact_records::state::mark_word;
-use contact_types::contact_manifold::ContactManifold;
 use contact_types::contact_manifold::ContactRecyclingCache;
+use math::vec::Vec3;
+use words::row::load_float;
 use words::row::load_word;
 use words::row::store_float;
 use words::row::store_word;
 use words::row::store_words;
+use words::vec::load_vec3;
 
-// The penetrations of a manifold's points, which stand from a place on.
-fn recycle_points(words: &mut [u32], at: usize, m: ContactManifold, motion: Motion)
-    requires { ⌜ (m .count ≤ 4) × (at + 72 ≤ length (now words)) ⌝ }
-    ensures { λ _. ⌜ now (words .exit) ≡ pointsPut (map (pointAfter motion (m .normal)) (pointsOf m)) at (now (words .entry)) ⌝ }
+// What the penetration of the point at a place becomes: the anchors stay, and the separation follows the bodies.
+fn penetration_at(words: &[u32], at: usize, normal: Vec3, motion: Motion) -> f32
+    requires { ⌜ at + 18 ≤ length (now words) ⌝ }
+    ensures { λ r. ⌜ r ≡ penetrationAfter motion normal (pointAt (now (words .entry)) at) ⌝ }
 {
-    let points = m.points;
-    let normal = m.normal;
-    let n = m.count as usize;
+    let r1 = motion.turn1.mul_vec3(load_vec3(words, at));
+    let r2 = motion.turn2.mul_vec3(load_vec3(words, at + 3));
+    let delta = motion.between.add(r2.sub(r1));
+    load_float(words, at + 10) - delta.dot(normal)
+}
+
+// The penetrations of n points, which stand from a place on. Each is read where it stands: what was written stands before it.
+fn recycle_points(words: &mut [u32], at: usize, n: usize, normal: Vec3, motion: Motion)
+    requires { ⌜ (n ≤ 4) × (at + 72 ≤ length (now words)) ⌝ }
+    ensures { λ _. ⌜ now (words .exit) ≡ pointsPut (map (pointAfter motion normal) (pointsAt (now (words .entry)) at n)) at (now (words .entry)) ⌝ }
+{
     let mut k = 0;
     while k < n {
-        let p = points[k];
-        let penetration = recycled_penetration(motion, normal, p);
+        let penetration = penetration_at(words, at + k * 18, normal, motion);
         store_float(words, at + k * 18 + 9, penetration);
         k += 1;
     }
 }
 
-// Each manifold is read where it stands: what was written stands before it.
+// Each manifold is read where it stands, too.
 fn recycle_manifolds(words: &mut [u32], motion: Motion)
     requires { ⌜ (length (now words) ≡ contactSize) × Counted (now words) manifoldsPlace ⌝ }
     ensures { λ _. ⌜ now (words .exit) ≡ manifoldsPut (map (manifoldAfter motion) (manifoldsAt (now (words .entry)) manifoldsPlace)) (manifoldsPlace + 1) (now (words .entry)) ⌝ }
@@ -55,8 +62,9 @@ fn recycle_manifolds(words: &mut [u32], motion: Motion)
     let mut k = 0;
     while k < n {
         let at = MANIFOLDS_PLACE + 1 + k * MANIFOLD_SIZE;
-        let m = load_manifold(words, at);
-        recycle_points(words, at + 9, m, motion);
+        let count = load_word(words, at) as usize;
+        let normal = load_vec3(words, at + 1);
+        recycle_points(words, at + 9, count, normal, motion);
         k += 1;
     }
 }

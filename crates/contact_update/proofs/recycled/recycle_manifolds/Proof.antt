@@ -25,30 +25,36 @@ loop-holds : tie.Need-loop-holds Inv-loop μ-loop
 unfolding manifoldsPut
 loop-holds c = (search needs, refl, record { after = λ j l. refl }, refl)
 
-load-manifold-requires : tie.Need-load-manifold-requires Inv-loop μ-loop
-load-manifold-requires c κs =
-    let w = c .before .before .loop in
-    let e = w .inv .2 .after (37 + w .k * 81) (omega arith) in
-    let f = c .before .before .before .before .before .before .pre .1 .points (w .k) (omega (arith, c .before .before .before .load-word .ensures, c .before .loop-test .taken)) in
-    (omega (arith, w .inv .1, c .before .before .before .before .before .before .pre .0, c .before .before .before .before .before .before .pre .1 .manifolds, c .before .before .before .load-word .ensures, c .before .loop-test .taken), omega arith)
+load-word-requires-2 : tie.Need-load-word-requires-2 Inv-loop μ-loop
+load-word-requires-2 c κs =
+    let s = c .before .before .before .before .before .before .pre in
+    omega (arith, c .before .before .loop .inv .1, s .0, s .1 .manifolds, c .before .before .before .load-word .ensures, c .before .loop-test .taken)
+
+load-vec3-requires : tie.Need-load-vec3-requires Inv-loop μ-loop
+load-vec3-requires c κs =
+    let t = c .before .before .before in
+    let s = t .before .before .before .before .before .pre in
+    omega (arith, t .before .loop .inv .1, s .0, s .1 .manifolds, t .before .before .load-word .ensures, t .loop-test .taken)
 
 recycle-points-requires : tie.Need-recycle-points-requires Inv-loop μ-loop
 recycle-points-requires c κs =
-    let w = c .before .before .before .before .loop in
+    let t = c .before .before .before .before .before in
+    let s = t .before .before .before .before .before .pre in
+    let w = t .before .loop in
     let e = w .inv .2 .after (37 + w .k * 81) (omega arith) in
-    let f = c .before .before .before .before .before .before .before .before .pre .1 .points (w .k) (omega (arith, c .before .before .before .before .before .load-word .ensures, c .before .before .before .loop-test .taken)) in
-    (omega (arith, c .before .load-manifold .ensures .count), omega (arith, w .inv .1, c .before .before .before .before .before .before .before .before .pre .0, c .before .before .before .before .before .before .before .before .pre .1 .manifolds, c .before .before .before .before .before .load-word .ensures, c .before .before .before .loop-test .taken))
+    let f = s .1 .points (w .k) (omega (arith, t .before .before .load-word .ensures, t .loop-test .taken)) in
+    (omega (arith, c .before .before .before .load-word2 .ensures), omega (arith, w .inv .1, s .0, s .1 .manifolds, t .before .before .load-word .ensures, t .loop-test .taken))
 
 loop-again : tie.Need-loop-again Inv-loop μ-loop
 loop-again c =
-    let w = c .before .before .before .before .before .before .before .loop in
-    let m = c .before .before .before .before .load-manifold in
-    let l : w .k < wordAt (c .before .before .before .before .before .before .before .before .before .before .before .args .words .now) 36 = omega (arith, c .before .before .before .before .before .before .before .before .load-word .ensures, c .before .before .before .before .before .before .loop-test .taken) in (
-      search needs,
-      search needs,
-      left-turn _ _ _ (m .result) (w .k) l (c .before .before .before .before .before .before .before .before .before .before .before .pre .1) (w .inv .2) (m .ensures) (c .before .before .recycle-points .ensures),
-      manifolds-turn _ _ _ (m .result) (w .k) l (c .before .before .before .before .before .before .before .before .before .before .before .pre .1) (w .inv .2) (m .ensures) (c .before .before .recycle-points .ensures) (w .inv .3),
-    )
+    let t = c .before .before .before .before .before .before .before .before in
+    let w = t .before .loop in
+    let s = t .before .before .before .before .before in
+    let l : w .k < wordAt (s .args .words .now) 36 = omega (arith, t .before .before .load-word .ensures, t .loop-test .taken) in
+    let n = c .before .before .before .before .before .before .load-word2 .ensures in
+    let normal = c .before .before .before .before .load-vec3 .ensures in
+    let p = c .before .before .recycle-points .ensures in
+    (search needs, search needs, left-turn _ _ _ (w .k) l (s .pre .1) (w .inv .2) n normal p, manifolds-turn _ _ _ (w .k) l (s .pre .1) (w .inv .2) n normal p (w .inv .3))
 
 returns : tie.Need-returns Inv-loop μ-loop
 returns c =
@@ -58,5 +64,5 @@ returns c =
 pub recycle-manifolds-spec : {M : Type 1} → statement M
 recycle-manifolds-spec =
     tie.close
-    (tie.spec Inv-loop μ-loop (search needs) (search needs) loop-holds (search needs) (search needs) (search needs) load-manifold-requires (search needs) recycle-points-requires (search needs)
-    (search needs) loop-again (search needs) returns)
+    (tie.spec Inv-loop μ-loop (search needs) (search needs) loop-holds (search needs) (search needs) (search needs) load-word-requires-2 (search needs) (search needs) load-vec3-requires (search needs)
+    recycle-points-requires (search needs) (search needs) loop-again (search needs) returns)
