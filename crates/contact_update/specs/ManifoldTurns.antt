@@ -13,10 +13,10 @@ use Rattle.rules.specs.Sides.{Side}
 use Rattle.words.specs.Words.{wordAt}
 use Rattle.contact_types.specs.Views.{pointsOf, manifoldOf}
 use Rattle.contact_types.specs.declared.contact_manifold.ContactManifold.{ContactManifold}
-use Rattle.contact_records.specs.Counts.{Counted, LoadedManifold}
+use Rattle.manifold_records.specs.Counts.{Counted, LoadedManifold}
+use Rattle.manifold_records.specs.Lists.{length-map-upto}
+use Rattle.manifold_records.specs.Recorded.{pointsAt, manifoldAt, manifoldsAt}
 use Rattle.contact_records.specs.Layout as place
-use Rattle.contact_records.specs.Lists.{length-map-upto}
-use Rattle.contact_records.specs.Recorded.{pointsAt, manifoldAt, manifoldsAt}
 use Rattle.contact_records.specs.Written.{markWord}
 use Rattle.contact_parameters.specs.Motions.{motionOf}
 use Rattle.contact_parameters.specs.declared.recycling.Motion.{Motion}
