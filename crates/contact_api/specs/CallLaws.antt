@@ -13,7 +13,8 @@ use Rattle.rules.specs.Limits.{mostContacts}
 use Rattle.rows.specs.Rows.{put}
 use Rattle.rows.specs.Laws.{put-whole}
 use Rattle.words.specs.Words.{vec3At}
-use Rattle.contact_records.specs.Written.{markWord, optionalWords, padded, zeros}
+use Rattle.manifold_records.specs.Written.{padded, zeros}
+use Rattle.contact_records.specs.Written.{markWord, optionalWords}
 use Rattle.math.specs.declared.vec.Vec3.{Vec3}
 use Rattle.contact_types.specs.Refusals.{numberOf}
 use Rattle.contact_types.specs.Prune as prune

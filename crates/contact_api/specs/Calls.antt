@@ -8,7 +8,8 @@ use lib.Dec.{eqb, ltb, leb}
 use lib.ListN.{length}
 use Rattle.rules.specs.Limits.{storedPoints, mostContacts}
 use Rattle.words.specs.Words.{wordAt, floatAt, vec3At}
-use Rattle.contact_records.specs.Written.{markWord, optionalWords, padded}
+use Rattle.manifold_records.specs.Written.{padded}
+use Rattle.contact_records.specs.Written.{markWord, optionalWords}
 use Rattle.contact_types.specs.Prune as prune
 use Rattle.contact_graph.specs.Calls.{layOutRefusal, laidOut, addRefusal, newIdOf, addedWords, idRefusal, removedWords}
 use Rattle.contact_graph.specs.LookUp.{Edge, edgeOf}

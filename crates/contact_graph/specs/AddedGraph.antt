@@ -16,18 +16,19 @@ use Rattle.rules.specs.Numbers.{every}
 use Rattle.rules.specs.NumberLaws.{any-at}
 use Rattle.rules.specs.Records.{Pair}
 use Rattle.words.specs.Words.{wordAt, floatWord}
+use Rattle.manifold_records.specs.Counts.{Counted}
+use Rattle.manifold_records.specs.Lists.{map-upto-next, map-upto-same, getD-map-upto, length-map-upto}
+use Rattle.manifold_records.specs.Written.{zeros}
 use Rattle.contact_records.specs.Apart.{pair-same}
 use Rattle.contact_records.specs.Back.{pair-held}
-use Rattle.contact_records.specs.Counts.{Counted}
 use Rattle.contact_records.specs.Fit.{FitFloat}
 use Rattle.contact_records.specs.Layout as record-place
 use Rattle.contact_records.specs.Lengths.{length-contact}
 use Rattle.contact_records.specs.Held.{Holds}
-use Rattle.contact_records.specs.Lists.{map-upto-next, map-upto-same, getD-map-upto, length-map-upto}
 use Rattle.contact_records.specs.New.{new-contact, new-fits}
 use Rattle.contact_records.specs.Parts.{index-held}
 use Rattle.contact_records.specs.Recorded.{pairAt}
-use Rattle.contact_records.specs.Written.{contactWords, zeros}
+use Rattle.contact_records.specs.Written.{contactWords}
 use Rattle.contact_range.specs.Layout as place
 use Rattle.contact_range.specs.Recorded.{capacityOf, givenOf, listedCount, freeCount, listedAt, freeAt, contactAt, graphOf}
 use Rattle.contact_range.specs.Range.{isMark, namesFit, marksFit, manifoldsFit, contactFits, sameColliders, rightLength, inRange, stands, InRange}

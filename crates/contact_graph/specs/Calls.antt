@@ -12,9 +12,10 @@ use Rattle.rules.specs.Limits.{colliders, bodies, mostContacts}
 use Rattle.rules.specs.Numbers.{any}
 use Rattle.rules.specs.Records.{Names, EdgeFlags}
 use Rattle.words.specs.Words.{wordAt}
+use Rattle.manifold_records.specs.Written.{zeros}
 use Rattle.contact_records.specs.Layout as record-place
 use Rattle.contact_records.specs.Recorded.{namesAt, edgeAt}
-use Rattle.contact_records.specs.Written.{contactWords, zeros}
+use Rattle.contact_records.specs.Written.{contactWords}
 use Rattle.contact_range.specs.Layout as place
 use Rattle.contact_range.specs.Recorded.{capacityOf, givenOf, listedCount, freeCount, listedAt, freeAt, contactAt}
 use Rattle.contact_range.specs.Range.{isMark, sameColliders, rightLength, inRange, stands}

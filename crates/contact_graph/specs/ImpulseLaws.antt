@@ -19,11 +19,12 @@ use Rattle.rules.specs.Numbers.{any}
 use Rattle.rules.specs.NumberLaws.{any-same}
 use Rattle.rules.specs.Stripped.{strippedPoint, strippedManifold, stripped}
 use Rattle.words.specs.Words.{wordAt}
+use Rattle.manifold_records.specs.Lists.{map-upto-same}
+use Rattle.manifold_records.specs.Recorded.{pointAt, pointsAt, manifoldAt, manifoldsAt}
 use Rattle.contact_records.specs.Apart.{vec3-same, names-same, edge-same, flags-same, cache-same}
 use Rattle.contact_records.specs.Held.{Same, same-in, word-same, first-same}
 use Rattle.contact_records.specs.Layout as record-place
-use Rattle.contact_records.specs.Lists.{map-upto-same}
-use Rattle.contact_records.specs.Recorded.{intOf, pointAt, pointsAt, manifoldAt, manifoldsAt, pairAt}
+use Rattle.contact_records.specs.Recorded.{intOf, pairAt}
 use Rattle.contact_range.specs.Layout as place
 use Rattle.contact_range.specs.Recorded.{capacityOf, givenOf, listedCount, freeCount, listedAt, freeAt, contactAt, graphOf}
 use Rattle.contact_range.specs.Range.{isMark, optionalFits, stands, isFree, sameColliders, samePair}

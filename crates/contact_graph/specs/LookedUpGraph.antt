@@ -12,8 +12,8 @@ use lib.ListN.{length, getD}
 use Rattle.rows.specs.Slots.{upto}
 use Rattle.rules.specs.Graph.{Graph}
 use Rattle.rules.specs.Records.{Pair}
+use Rattle.manifold_records.specs.Lists.{getD-map-upto, length-map-upto}
 use Rattle.contact_records.specs.Layout as record-place
-use Rattle.contact_records.specs.Lists.{getD-map-upto, length-map-upto}
 use Rattle.contact_records.specs.Recorded.{namesAt, edgeAt, pairAt}
 use Rattle.contact_range.specs.Recorded.{listedCount, listedAt, contactAt, graphOf}
 use Rattle.contact_range.specs.Range.{stands}

@@ -15,11 +15,11 @@ use Rattle.rows.specs.Slots.{upto}
 use Rattle.rules.specs.Graph.{Graph, later, position, swapRemove, removedAt, removedFound, plainRemove}
 use Rattle.rules.specs.Records.{Pair}
 use Rattle.words.specs.Words.{wordAt}
+use Rattle.manifold_records.specs.Counts.{Counted}
+use Rattle.manifold_records.specs.Lists.{map-upto-next, map-upto-same, getD-map-upto, length-map-upto}
 use Rattle.contact_records.specs.Apart.{names-same, edge-same, flags-same, manifolds-same, cache-same}
-use Rattle.contact_records.specs.Counts.{Counted}
 use Rattle.contact_records.specs.Held.{Same}
 use Rattle.contact_records.specs.Layout as record-place
-use Rattle.contact_records.specs.Lists.{map-upto-next, map-upto-same, getD-map-upto, length-map-upto}
 use Rattle.contact_records.specs.Recorded.{intOf, namesAt, pairAt}
 use Rattle.contact_range.specs.Recorded.{listedCount, freeCount, listedAt, freeAt, contactAt, graphOf}
 use Rattle.contact_range.specs.Range.{stands}

@@ -3,7 +3,7 @@ use Prim.Native.Nat.{ℕ}
 use mathlib.Core.Path.{_≡_, refl, ap}
 use mathlib.Core.List.{List, [], _∷_, map}
 use lib.ListN.{length}
-use Rattle.contact_records.specs.Written.{zeros}
+use Rattle.manifold_records.specs.Written.{zeros}
 
 pub zeros-map : (xs : List ℕ) → map (λ _. 0) xs ≡ zeros (length xs)
 unfolding zeros

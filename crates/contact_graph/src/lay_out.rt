@@ -2,7 +2,7 @@
 ghost use mathlib.Core.Path.{_≡_};
 ghost use Prim.Native.Nat.{_≤_};
 ghost use lib.ListN.{length};
-ghost use Rattle.contact_records.specs.Written.{zeros};
+ghost use Rattle.manifold_records.specs.Written.{zeros};
 ghost use Rattle.contact_range.specs.Layout.{graphLength};
 ghost use Rattle.contact_graph.specs.Promises.{LaidOut};
 use contact_range::layout::CONTACT_SIZE;

@@ -12,11 +12,12 @@ use lib.ListN.{length}
 use Rattle.rows.specs.Rows.{part, put, Apart}
 use Rattle.rows.specs.Slots.{upto}
 use Rattle.words.specs.Words.{wordAt, vec3At, quatAt}
-use Rattle.contact_records.specs.Counts.{Counted}
+use Rattle.manifold_records.specs.Counts.{Counted}
+use Rattle.manifold_records.specs.Lists.{map-upto-same}
+use Rattle.manifold_records.specs.Recorded.{pointAt, pointsAt, manifoldAt, manifoldsAt}
 use Rattle.contact_records.specs.Held.{Same, same-in, word-same, first-same, same-put, part-same}
-use Rattle.contact_records.specs.Lists.{map-upto-same}
 use Rattle.contact_records.specs.Layout as place
-use Rattle.contact_records.specs.Recorded.{optionalAt, intOf, pointAt, pointsAt, manifoldAt, manifoldsAt, cacheAt, flagsAt, namesAt, edgeAt, pairAt}
+use Rattle.contact_records.specs.Recorded.{optionalAt, intOf, cacheAt, flagsAt, namesAt, edgeAt, pairAt}
 
 -- place k of an array of structs
 pub row-in : (n size count k : ℕ) → k < n → n ≤ count → k * size + size ≤ count * size

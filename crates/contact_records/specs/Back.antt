@@ -18,17 +18,20 @@ use Rattle.rows.specs.EachLaws.{length-each}
 use Rattle.rows.specs.Slots.{upto}
 use Rattle.rules.specs.Records.{Point, Manifold, Cache, PairFlags, Names, EdgeFlags, Pair}
 use Rattle.words.specs.Words.{wordAt, vec3At, quatAt, floatWord, vec3Words, quatWords}
+use Rattle.manifold_records.specs.Counts.{Counted}
+use Rattle.manifold_records.specs.Lengths.{length-point, length-manifold}
+use Rattle.manifold_records.specs.Lists.{map-upto-is, padded-is}
+use Rattle.manifold_records.specs.Recorded.{pointAt, pointsAt, manifoldAt, manifoldsAt}
+use Rattle.manifold_records.specs.Written.{zeros, padded, pointWords, manifoldWords, manifoldsWords}
 use Rattle.contact_records.specs.Apart.{names-same, edge-same}
-use Rattle.contact_records.specs.Counts.{Counted}
 use Rattle.contact_records.specs.Fit.{FitFloat, FitVec3, FitQuat, FitPoint, FitPoints, FitManifold, FitManifolds, FitCached, FitPair}
 use Rattle.contact_records.specs.Held.{Holds, put-holds, holds-at, holds-left, holds-right, holds-each, word-held, first-held, same-put}
 use Rattle.contact_records.specs.Ints.{int-back}
 use Rattle.contact_records.specs.Layout as place
-use Rattle.contact_records.specs.Lengths.{length-point, length-manifold, length-flags, length-cache, length-optional, length-names, length-edge, length-state, length-contact}
-use Rattle.contact_records.specs.Lists.{map-upto-is, padded-is}
+use Rattle.contact_records.specs.Lengths.{length-flags, length-cache, length-optional, length-names, length-edge, length-state, length-contact}
 use Rattle.contact_records.specs.Made.{cachedAt}
-use Rattle.contact_records.specs.Recorded.{optionalAt, intOf, pointAt, pointsAt, manifoldAt, manifoldsAt, cacheAt, flagsAt, namesAt, edgeAt, pairAt}
-use Rattle.contact_records.specs.Written.{markWord, zeros, padded, optionalWords, intWord, pointWords, manifoldWords, manifoldsWords, cacheWords, flagsWords, namesWords, edgeWords, stateWords, contactWords}
+use Rattle.contact_records.specs.Recorded.{optionalAt, intOf, cacheAt, flagsAt, namesAt, edgeAt, pairAt}
+use Rattle.contact_records.specs.Written.{markWord, optionalWords, intWord, cacheWords, flagsWords, namesWords, edgeWords, stateWords, contactWords}
 
 -- a pair with the state of another: what a full update stores
 abbrev pub withState : Pair → Pair → Pair

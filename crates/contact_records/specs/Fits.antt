@@ -10,13 +10,14 @@ use lib.Ieee.Bits.{ofBits-fits, is-true}
 use lib.ListN.{getD}
 use Rattle.rules.specs.Records.{Point, Manifold, Cache}
 use Rattle.words.specs.Words.{wordAt, floatAt, vec3At, quatAt}
-use Rattle.contact_records.specs.Counts.{Counted}
+use Rattle.manifold_records.specs.Counts.{Counted}
+use Rattle.manifold_records.specs.Lists.{getD-map-upto, length-map-upto}
+use Rattle.manifold_records.specs.Recorded.{pointAt, pointsAt, manifoldAt, manifoldsAt}
 use Rattle.contact_records.specs.Fit.{FitFloat, FitVec3, FitQuat, FitPoint, FitPoints, FitManifold, FitManifolds, FitCache, FitCached, FitPair}
 use Rattle.contact_records.specs.Ints.{int-fits}
 use Rattle.contact_records.specs.Layout as place
-use Rattle.contact_records.specs.Lists.{getD-map-upto, length-map-upto}
 use Rattle.contact_records.specs.Made.{cachedAt}
-use Rattle.contact_records.specs.Recorded.{markAt, pointAt, pointsAt, manifoldAt, manifoldsAt, cacheAt, pairAt}
+use Rattle.contact_records.specs.Recorded.{markAt, cacheAt, pairAt}
 
 module _ (xs : List ℕ) where
   float-fits : (at : ℕ) → FitFloat (floatAt xs at)

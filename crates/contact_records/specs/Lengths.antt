@@ -2,26 +2,13 @@
 use mathlib.Core.Path.{_≡_, refl}
 use Prim.Native.Nat.{ℕ}
 use native.Mathlib.Omega.{arith}
-use mathlib.Core.List.{List}
 use mathlib.Core.Option.{Option, none, some}
 use lib.ListN.{length, length-append}
-use Rattle.rows.specs.Rows.{each}
-use Rattle.rules.specs.Records.{Point, Manifold, Cache, PairFlags, Names, EdgeFlags, Pair}
+use Rattle.rules.specs.Records.{Cache, PairFlags, Names, EdgeFlags, Pair}
+use Rattle.manifold_records.specs.Lengths.{length-manifolds}
+use Rattle.manifold_records.specs.Lists.{length-zeros}
 use Rattle.contact_records.specs.Layout as place
-use Rattle.contact_records.specs.Lists.{length-zeros, length-padded}
-use Rattle.contact_records.specs.Written.{optionalWords, pointWords, manifoldWords, manifoldsWords, cacheWords, flagsWords, namesWords, edgeWords, stateWords, contactWords}
-
-pub length-point : (p : Point) → length (pointWords p) ≡ place.pointSize
-unfolding pointWords
-length-point p = refl
-
-pub length-manifold : (m : Manifold) → length (manifoldWords m) ≡ place.manifoldSize
-unfolding manifoldWords
-length-manifold m = let e = length-padded 72 (each pointWords (m .points)) in omega arith
-
-pub length-manifolds : (ms : List Manifold) → length (manifoldsWords ms) ≡ place.manifoldsSize
-unfolding manifoldsWords
-length-manifolds ms = let e = length-padded 486 (each manifoldWords ms) in omega arith
+use Rattle.contact_records.specs.Written.{optionalWords, cacheWords, flagsWords, namesWords, edgeWords, stateWords, contactWords}
 
 pub length-cache : (c : Option Cache) → length (cacheWords c) ≡ place.cacheSize
 unfolding cacheWords

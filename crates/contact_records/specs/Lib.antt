@@ -1,11 +1,9 @@
 pub mod Layout
 pub mod Recorded
 pub mod Written
-pub mod Counts
 pub mod StateViews
 pub mod Made
 pub mod Ints
-pub mod Lists
 pub mod Lengths
 pub mod Stored
 pub mod Held

@@ -11,10 +11,11 @@ use Rattle.rows.specs.Rows.{put}
 use Rattle.rows.specs.Laws.{put-next}
 use Rattle.rules.specs.Graph.{Addition, newPair}
 use Rattle.words.specs.Words.{floatWord}
+use Rattle.manifold_records.specs.Lists.{padded-is}
+use Rattle.manifold_records.specs.Written.{zeros, padded, manifoldsWords}
 use Rattle.contact_records.specs.Fit.{FitFloat, FitPair}
-use Rattle.contact_records.specs.Lists.{padded-is}
 use Rattle.contact_records.specs.Lengths.{length-optional}
-use Rattle.contact_records.specs.Written.{markWord, zeros, padded, optionalWords, intWord, flagsWords, cacheWords, namesWords, edgeWords, manifoldsWords, stateWords, contactWords}
+use Rattle.contact_records.specs.Written.{markWord, optionalWords, intWord, flagsWords, cacheWords, namesWords, edgeWords, stateWords, contactWords}
 
 -- colliders, bodies, the place in the list; the edge's marks; the pair's marks; count change and speculative distance
 unfoldable pub newContactWords : ℕ → Addition → List ℕ

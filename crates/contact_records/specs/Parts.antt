@@ -10,9 +10,9 @@ use Rattle.rows.specs.Rows.{put}
 use Rattle.rows.specs.Laws.{getD-put-apart}
 use Rattle.rules.specs.Records.{EdgeFlags, PairFlags, Pair}
 use Rattle.words.specs.Words.{wordAt}
+use Rattle.manifold_records.specs.Counts.{Counted}
 use Rattle.contact_records.specs.Apart.{names-same, edge-same, flags-same, manifolds-same, cache-same}
 use Rattle.contact_records.specs.Back.{edge-held, flags-held}
-use Rattle.contact_records.specs.Counts.{Counted}
 use Rattle.contact_records.specs.Held.{Holds, put-holds, holds-left, holds-right, first-held, same-put}
 use Rattle.contact_records.specs.Layout as place
 use Rattle.contact_records.specs.Lengths.{length-optional, length-edge, length-flags, length-contact}

@@ -1,5 +1,2 @@
-// A contact's record in a lent row of words: loaded into structs by value, and stored.
-pub mod manifold;
-pub mod point;
+// A contact's record in a lent row of words, besides its manifolds: loaded into structs by value, and stored.
 pub mod state;
-pub mod zeros;

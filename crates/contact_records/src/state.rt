@@ -7,8 +7,8 @@ ghost use Rattle.contact_records.specs.Recorded.{intOf, flagsAt, cacheAt
 ghost use Rattle.contact_records.specs.StateViews.{flagsOf, cachedOf, cacheOf};
 ghost use Rattle.contact_records.specs.Written.{markWord, intWord, flagsWords, cacheWords};
 ghost use mathlib.Core.Option.{some};
-use crate::zeros::store_zeros;
 use contact_types::contact_manifold::ContactRecyclingCache;
+use manifold_records::zeros::store_zeros;
 use math::bits::bits_of;
 use words::row::load_word;
 use words::row::load_words;

@@ -16,9 +16,9 @@ use Rattle.rules.specs.Update.{isRecycled}
 use Rattle.rules.specs.Status as status
 use Rattle.words.specs.Words.{wordAt, floatWord}
 use Rattle.data_structures.specs.BitVec.{blocksOf, marked, setBits}
+use Rattle.manifold_records.specs.Written.{zeros}
 use Rattle.contact_records.specs.Fit.{FitFloat}
 use Rattle.contact_records.specs.Recorded.{intOf}
-use Rattle.contact_records.specs.Written.{zeros}
 use Rattle.contact_graph.specs.Calls.{additionOf}
 use Rattle.contact_range.specs.Checked.{Checked}
 use Rattle.contact_graph.specs.Impulses.{ImpulsesWritten}

@@ -15,8 +15,8 @@ use Rattle.rules.specs.Graph.{emptyGraph}
 use Rattle.rules.specs.Runs.{Provisos, plainRun, plainGraph, heldIn}
 use Rattle.words.specs.Words.{wordAt}
 use Rattle.collider.specs.Recorded.{colliderAt, presentCollider, bodyAt}
+use Rattle.manifold_records.specs.Written.{zeros}
 use Rattle.contact_records.specs.Fit.{FitFloat}
-use Rattle.contact_records.specs.Written.{zeros}
 use Rattle.contact_graph.specs.Calls.{laidOut, addRefusal, addedWords}
 use Rattle.contact_graph.specs.ImpulseLaws.{impulse-put}
 use Rattle.contact_graph.specs.Impulses.{ImpulseAt}

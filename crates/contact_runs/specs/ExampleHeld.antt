@@ -12,10 +12,11 @@ use Rattle.rules.specs.Graph.{Graph, emptyGraph}
 use Rattle.rules.specs.Records.{Pair}
 use Rattle.rules.specs.Runs.{plainGraph, heldIn}
 use Rattle.words.specs.Words.{wordAt}
+use Rattle.manifold_records.specs.Lists.{length-map-upto}
+use Rattle.manifold_records.specs.Recorded.{manifoldAt, manifoldsAt}
+use Rattle.manifold_records.specs.Written.{zeros}
 use Rattle.contact_records.specs.Layout as place
-use Rattle.contact_records.specs.Lists.{length-map-upto}
-use Rattle.contact_records.specs.Recorded.{manifoldAt, manifoldsAt, flagsAt, namesAt, pairAt}
-use Rattle.contact_records.specs.Written.{zeros}
+use Rattle.contact_records.specs.Recorded.{flagsAt, namesAt, pairAt}
 use Rattle.contact_graph.specs.Calls.{laidOut}
 use Rattle.contact_range.specs.Recorded.{listedCount, listedAt, contactAt, graphOf}
 use Rattle.contact_graph.specs.declared.lay_out.LayOutAnswer.the-variants.{Done}

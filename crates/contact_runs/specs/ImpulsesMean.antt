@@ -9,11 +9,12 @@ use lib.ListN.{length}
 use Rattle.rows.specs.Slots.{upto}
 use Rattle.rules.specs.Runs.{withPairs}
 use Rattle.words.specs.Words.{wordAt}
+use Rattle.manifold_records.specs.Lists.{map-upto-same, length-map-upto}
+use Rattle.manifold_records.specs.Recorded.{pointAt, pointsAt, manifoldAt, manifoldsAt}
 use Rattle.contact_records.specs.Apart.{vec3-same, names-same, edge-same, flags-same, cache-same}
 use Rattle.contact_records.specs.Held.{Same, same-in, word-same, first-same}
 use Rattle.contact_records.specs.Layout as record-place
-use Rattle.contact_records.specs.Lists.{map-upto-same, length-map-upto}
-use Rattle.contact_records.specs.Recorded.{intOf, namesAt, pointAt, pointsAt, manifoldAt, manifoldsAt, pairAt}
+use Rattle.contact_records.specs.Recorded.{intOf, namesAt, pairAt}
 use Rattle.contact_graph.specs.AddedGraph.{listedPair}
 use Rattle.contact_range.specs.Checked.{Checked}
 use Rattle.contact_graph.specs.ImpulseLaws.{map-map, capacity-kept, given-kept, listed-kept, freed-kept, listed-at, free-at, first-words, first-run, own-run, manifold-run, point-word, point-run, impulses-in-range}

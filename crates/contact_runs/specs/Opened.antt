@@ -21,8 +21,10 @@ use Rattle.proposals.specs.Range.{proposalFits, hookFits}
 use Rattle.proposals.specs.Recorded.{proposedPointAt, proposedPointsAt, proposedManifoldAt, proposalAt, hookAt}
 use Rattle.rows.specs.Rows.{part, put}
 use Rattle.rows.specs.Slots.{upto, updateAt}
-use Rattle.contact_records.specs.Recorded.{pointAt, pointsAt, manifoldAt, manifoldsAt, cacheAt, flagsAt, namesAt, edgeAt, pairAt}
-use Rattle.contact_records.specs.Written.{zeros, padded, optionalWords, intWord, pointWords, manifoldWords, manifoldsWords, cacheWords, flagsWords, namesWords, edgeWords, stateWords, contactWords}
+use Rattle.manifold_records.specs.Recorded.{pointAt, pointsAt, manifoldAt, manifoldsAt}
+use Rattle.manifold_records.specs.Written.{zeros, padded, pointWords, manifoldWords, manifoldsWords}
+use Rattle.contact_records.specs.Recorded.{cacheAt, flagsAt, namesAt, edgeAt, pairAt}
+use Rattle.contact_records.specs.Written.{optionalWords, intWord, cacheWords, flagsWords, namesWords, edgeWords, stateWords, contactWords}
 use Rattle.contact_graph.specs.Calls.{layOutRefusal, laidOut, requestFits, pairStands, addRefusal, newIdOf, addedWords, removedWords}
 use Rattle.contact_range.specs.Range.{rightLength, namesFit, marksFit, manifoldsFit, contactFits, countsFit, listedGiven, namesBack, contactsFit, freeGiven, freeOnce, stands, isFree, freeApart, givenKnown, sameColliders, samePair, pairsOnce, inRange}
 use Rattle.data_structures.specs.BitVec.{blocksOf, numbersWith}

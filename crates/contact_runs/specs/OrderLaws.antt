@@ -15,8 +15,8 @@ use Rattle.collider.specs.Recorded.{settingsOf}
 use Rattle.data_structures.specs.BitVec.{blocksOf, bitAt, marked, numbersWith, setBits}
 use Rattle.data_structures.specs.BitVecLaws.{blocks-hold}
 use Rattle.data_structures.specs.NumberLaws.{numbers-same, numbers-append, numbers-none}
-use Rattle.contact_records.specs.Lists.{length-zeros}
-use Rattle.contact_records.specs.Written.{zeros}
+use Rattle.manifold_records.specs.Lists.{length-zeros}
+use Rattle.manifold_records.specs.Written.{zeros}
 use Rattle.contact_range.specs.Checked.{Checked}
 use Rattle.contact_graph.specs.LaidOutLaws.{zeros-at}
 use Rattle.contact_range.specs.Range.{stands}

@@ -9,7 +9,7 @@ use Rattle.rows.specs.Slots.{upto}
 use Rattle.rules.specs.Numbers.{every, any}
 use Rattle.rules.specs.NumberLaws.{every-same}
 use Rattle.rules.specs.Records.{Pair}
-use Rattle.contact_records.specs.Lists.{length-map-upto}
+use Rattle.manifold_records.specs.Lists.{length-map-upto}
 use Rattle.contact_records.specs.Recorded.{namesAt, pairAt}
 use Rattle.collider.specs.Range.{settingsFit, collidersFit, bodiesFit}
 use Rattle.contact_graph.specs.AddedGraph.{listedPair}

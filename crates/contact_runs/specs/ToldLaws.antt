@@ -20,9 +20,9 @@ use Rattle.rules.specs.Records.{Names, Pair}
 use Rattle.rules.specs.Status.{Change, start, stop, count, stopIf, countOf}
 use Rattle.rules.specs.Visit.{Verdict, vanishes, starts, stops, generates, recounts, stands, verdict, say}
 use Rattle.words.specs.Words.{wordAt}
+use Rattle.manifold_records.specs.Lists.{map-upto-is}
 use Rattle.contact_records.specs.Ints.{int-back, int-fits}
 use Rattle.contact_records.specs.Layout as place
-use Rattle.contact_records.specs.Lists.{map-upto-is}
 use Rattle.contact_records.specs.Recorded.{intOf, pairAt}
 use Rattle.contact_range.specs.Recorded.{contactAt}
 use Rattle.status_pass.specs.Pass.{Passing, visitedPair, begun, visitWords, passWords}

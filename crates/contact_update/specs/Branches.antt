@@ -20,8 +20,9 @@ use Rattle.words.specs.Words.{wordAt, floatWord}
 use Rattle.collider.specs.Layout as collider-place
 use Rattle.collider.specs.Range.{isMark, colliderFits, collidersFit}
 use Rattle.collider.specs.Recorded.{numberIfAt, presentCollider, colliderAt}
+use Rattle.manifold_records.specs.Written.{manifoldsWords}
 use Rattle.contact_records.specs.StateViews.{flagsOf, cachedOf}
-use Rattle.contact_records.specs.Written.{flagsWords, cacheWords, manifoldsWords, stateWords}
+use Rattle.contact_records.specs.Written.{flagsWords, cacheWords, stateWords}
 use Rattle.contact_types.specs.Views.{manifoldsOf}
 use Rattle.contact_range.specs.RangeLaws.{first-of, rest-of}
 use Rattle.contact_update.specs.After.{afterWords}

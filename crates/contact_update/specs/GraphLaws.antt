@@ -23,12 +23,12 @@ use Rattle.collider.specs.Recorded.{colliderAt, bodyAt}
 use Rattle.proposals.specs.Layout as proposal-place
 use Rattle.proposals.specs.Range.{Proposed}
 use Rattle.proposals.specs.Recorded.{proposedPointAt, proposedPointsAt, proposedManifoldAt, proposalAt, hookAt}
+use Rattle.manifold_records.specs.Counts.{Counted}
+use Rattle.manifold_records.specs.Lists.{map-upto-same}
 use Rattle.contact_records.specs.Apart.{row-in, vec3-same, pair-same, pair-part}
-use Rattle.contact_records.specs.Counts.{Counted}
 use Rattle.contact_records.specs.Fit.{FitPair}
 use Rattle.contact_records.specs.Held.{Same, same-in, word-same, first-same, part-same, same-back}
 use Rattle.contact_records.specs.Layout as record-place
-use Rattle.contact_records.specs.Lists.{map-upto-same}
 use Rattle.contact_records.specs.Recorded.{namesAt, pairAt}
 use Rattle.contact_range.specs.Layout as place
 use Rattle.contact_range.specs.Recorded.{capacityOf, givenOf, listedCount, freeCount, listedAt, freeAt, contactAt, graphOf}

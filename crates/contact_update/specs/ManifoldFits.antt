@@ -25,9 +25,9 @@ use Rattle.rules.specs.Sides.{Side}
 use Rattle.rules.specs.Surface.{Surface}
 use Rattle.rules.specs.Update.{hooked, matched, remaining}
 use Rattle.words.specs.Words.{wordAt}
+use Rattle.manifold_records.specs.Lists.{getD-map-upto, length-map-upto}
 use Rattle.contact_records.specs.Fit.{FitFloat, FitVec3, FitPoint, FitPoints, FitManifold, FitManifolds}
 use Rattle.contact_records.specs.Fits.{vec3-fits}
-use Rattle.contact_records.specs.Lists.{getD-map-upto, length-map-upto}
 use Rattle.proposals.specs.Layout as proposal-place
 use Rattle.proposals.specs.Range.{Proposed}
 use Rattle.proposals.specs.Recorded.{proposedPointAt, proposedPointsAt, proposedManifoldAt, proposalAt}

@@ -12,9 +12,9 @@ use Rattle.rules.specs.Records.{Manifold, Cache}
 use Rattle.rules.specs.Recycling.{recycledManifold}
 use Rattle.rules.specs.Sides.{Side}
 use Rattle.words.specs.Words.{wordAt, vec3At}
-use Rattle.contact_records.specs.Counts.{Counted}
+use Rattle.manifold_records.specs.Counts.{Counted}
+use Rattle.manifold_records.specs.Recorded.{pointsAt, manifoldAt, manifoldsAt}
 use Rattle.contact_records.specs.Layout as place
-use Rattle.contact_records.specs.Recorded.{pointsAt, manifoldAt, manifoldsAt}
 use Rattle.contact_records.specs.Written.{markWord}
 use Rattle.contact_parameters.specs.Motions.{motionOf}
 use Rattle.contact_parameters.specs.declared.recycling.Motion.{Motion}

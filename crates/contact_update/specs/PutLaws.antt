@@ -9,10 +9,10 @@ use lib.ListN.{length, getD, take}
 use Rattle.rows.specs.Rows.{put}
 use Rattle.rules.specs.Records.{Point, Manifold}
 use Rattle.words.specs.Words.{wordAt, floatWord}
+use Rattle.manifold_records.specs.Lists.{getD-map-upto, length-map-upto}
+use Rattle.manifold_records.specs.Recorded.{manifoldAt, manifoldsAt}
 use Rattle.contact_records.specs.Apart.{manifold-same}
 use Rattle.contact_records.specs.Layout as place
-use Rattle.contact_records.specs.Lists.{getD-map-upto, length-map-upto}
-use Rattle.contact_records.specs.Recorded.{manifoldAt, manifoldsAt}
 use Rattle.contact_update.specs.After.{pointsPut, manifoldsPut}
 use Rattle.contact_update.specs.RecordLaws.{points-word}
 

@@ -28,16 +28,18 @@ use Rattle.rules.specs.Update.{Way, skipped, apart, recycled, full, Updated, bo
 use Rattle.words.specs.Words.{wordAt, floatAt, vec3At, floatWord}
 use Rattle.collider.specs.Recorded.{colliderAt, bodyAt}
 use Rattle.proposals.specs.Recorded.{proposalAt, hookAt}
+use Rattle.manifold_records.specs.Counts.{Counted}
+use Rattle.manifold_records.specs.Lists.{getD-map-upto, length-map-upto, map-upto-same}
+use Rattle.manifold_records.specs.Recorded.{pointAt, pointsAt, manifoldAt, manifoldsAt}
+use Rattle.manifold_records.specs.Written.{zeros, manifoldsWords}
 use Rattle.contact_records.specs.Apart.{vec3-same, names-same, edge-same, manifolds-same, counted-same, cache-same}
 use Rattle.contact_records.specs.Back.{withState, state-back, counted-state}
-use Rattle.contact_records.specs.Counts.{Counted}
 use Rattle.contact_records.specs.Fit.{FitFloat, FitManifolds, FitPair}
 use Rattle.contact_records.specs.Held.{Holds, Same, put-holds, holds-left, holds-right, same-in, word-same, first-same}
 use Rattle.contact_records.specs.Layout as place
 use Rattle.contact_records.specs.Lengths.{length-cache, length-flags, length-state}
-use Rattle.contact_records.specs.Lists.{getD-map-upto, length-map-upto, map-upto-same}
-use Rattle.contact_records.specs.Recorded.{intOf, pointAt, pointsAt, manifoldAt, manifoldsAt, flagsAt, pairAt}
-use Rattle.contact_records.specs.Written.{markWord, zeros, intWord, manifoldsWords, cacheWords, flagsWords, stateWords}
+use Rattle.contact_records.specs.Recorded.{intOf, flagsAt, pairAt}
+use Rattle.contact_records.specs.Written.{markWord, intWord, cacheWords, flagsWords, stateWords}
 use Rattle.contact_range.specs.Range.{isMark, optionalFits}
 use Rattle.contact_range.specs.RangeLaws.{Fitting}
 use Rattle.contact_graph.specs.Effects.{differ, same-or-not}

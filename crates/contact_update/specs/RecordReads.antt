@@ -1,7 +1,7 @@
 -- What a record in range says of its counts. Assumes nothing.
 use mathlib.Core.List.{List}
 use Prim.Native.Nat.{ℕ}
-use Rattle.contact_records.specs.Counts.{Counted}
+use Rattle.manifold_records.specs.Counts.{Counted}
 use Rattle.contact_records.specs.Layout as place
 use Rattle.contact_range.specs.RangeLaws.{Fitting}
 

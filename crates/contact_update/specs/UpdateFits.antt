@@ -20,7 +20,7 @@ use Rattle.rules.specs.Update.{Updated, bodyOf, disjoint, recycledPair, cacheOf
 use Rattle.words.specs.Words.{wordAt}
 use Rattle.collider.specs.Layout as collider-place
 use Rattle.collider.specs.Recorded.{markAt, coefficientAt, coefficientIfAt, settingsOf, presentCollider, colliderAt, presentBody, bodyAt}
-use Rattle.contact_records.specs.Counts.{Counted}
+use Rattle.manifold_records.specs.Counts.{Counted}
 use Rattle.contact_records.specs.Fit.{FitFloat, FitQuat, FitManifolds, FitCache, FitCached, FitPair}
 use Rattle.contact_records.specs.Fits.{quat-fits, pair-fits}
 use Rattle.contact_records.specs.Layout as place

@@ -15,7 +15,7 @@ use Rattle.rows.specs.Arrays.{front, front-step}
 use Rattle.rules.specs.Inputs.{Settings}
 use Rattle.rules.specs.Records.{Manifold}
 use Rattle.rules.specs.Update.{matched}
-use Rattle.contact_records.specs.Counts.{FewPoints, FewManifolds}
+use Rattle.manifold_records.specs.Counts.{FewPoints, FewManifolds}
 use Rattle.contact_types.specs.Matching.{Stored}
 use Rattle.contact_types.specs.Views.{manifoldOf, manifoldsOf}
 use Rattle.contact_types.specs.declared.contact_manifold.ContactManifold.{ContactManifold}

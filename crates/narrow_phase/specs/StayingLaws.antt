@@ -25,8 +25,8 @@ use Rattle.collider.specs.Views.{plainSide}
 use Rattle.collider.specs.declared.side.Side.{Side}
 use Rattle.contact_parameters.specs.Views.{plainSurface}
 use Rattle.contact_parameters.specs.declared.surface.Surface.{Surface}
-use Rattle.contact_records.specs.Counts.{FewPoints}
-use Rattle.contact_records.specs.Lists.{map-upto-next}
+use Rattle.manifold_records.specs.Counts.{FewPoints}
+use Rattle.manifold_records.specs.Lists.{map-upto-next}
 use Rattle.contact_types.specs.Views.{pointOf, pointsOf, manifoldOf, manifoldsOf}
 use Rattle.contact_types.specs.declared.contact_manifold.ContactManifold.{ContactManifold}
 use Rattle.contact_types.specs.declared.contact_manifold.ContactManifolds.{ContactManifolds}

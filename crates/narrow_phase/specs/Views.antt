@@ -12,7 +12,7 @@ use Rattle.contact_types.specs.Views.{pointOf, manifoldOf, manifoldsOf}
 use Rattle.contact_types.specs.declared.contact_manifold.ContactManifold.{ContactManifold}
 use Rattle.contact_types.specs.declared.contact_manifold.ContactManifolds.{ContactManifolds}
 use Rattle.contact_types.specs.declared.contact_point.ContactPoint.{ContactPoint}
-use Rattle.contact_records.specs.Counts.{FewManifolds}
+use Rattle.manifold_records.specs.Counts.{FewManifolds}
 use Rattle.narrow_phase.specs.declared.manifold.ManifoldPoints.{ManifoldPoints}
 
 -- the first points of an array

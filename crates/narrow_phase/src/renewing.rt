@@ -5,7 +5,7 @@ ghost use Prim.Native.Nat.{_≤_};
 ghost use Rattle.rules.specs.Update.{cacheOf, enabled, matched, renewedFlags, statusBit};
 ghost use Rattle.collider.specs.Views.{plainSettings, plainCollider, plainSide};
 ghost use Rattle.contact_types.specs.Views.{manifoldsOf};
-ghost use Rattle.contact_records.specs.Counts.{FewManifolds};
+ghost use Rattle.manifold_records.specs.Counts.{FewManifolds};
 ghost use Rattle.contact_records.specs.StateViews.{flagsOf, cachedOf};
 ghost use Rattle.narrow_phase.specs.Views.{ManifoldsAre, MatchedManifolds};
 use collider::collider_record::ColliderRecord;

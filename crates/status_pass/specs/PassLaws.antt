@@ -22,11 +22,11 @@ use Rattle.rules.specs.NumberLaws.{any-same}
 use Rattle.rules.specs.Status.{Event, Change, Pass, eventIf, stopIf, countOf, written, visitAt, visitFound, visit, visitAll}
 use Rattle.rules.specs.Visit.{Verdict, vanishes, starts, stops, generates, recounts, stands, verdict, next, say, hear, visitAs, visitAt-as}
 use Rattle.words.specs.Words.{wordAt}
+use Rattle.manifold_records.specs.Counts.{Counted}
+use Rattle.manifold_records.specs.Lists.{map-upto-same, getD-map-upto, length-map-upto}
 use Rattle.contact_records.specs.Apart.{pair-same}
-use Rattle.contact_records.specs.Counts.{Counted}
 use Rattle.contact_records.specs.Held.{Same}
 use Rattle.contact_records.specs.Layout as record-place
-use Rattle.contact_records.specs.Lists.{map-upto-same, getD-map-upto, length-map-upto}
 use Rattle.contact_records.specs.Recorded.{pairAt}
 use Rattle.contact_range.specs.Layout as place
 use Rattle.contact_range.specs.Recorded.{capacityOf, givenOf, listedCount, freeCount, listedAt, freeAt, contactAt, graphOf}

@@ -17,11 +17,12 @@ use Rattle.rules.specs.Limits.{bodies}
 use Rattle.rules.specs.Status.{withMarks, marks}
 use Rattle.rules.specs.Visit.{Verdict, vanishes, starts, stops, generates, recounts, stands, next}
 use Rattle.words.specs.Words.{wordAt}
+use Rattle.manifold_records.specs.Lists.{map-upto-same}
+use Rattle.manifold_records.specs.Recorded.{pointsAt, manifoldAt, manifoldsAt}
 use Rattle.contact_records.specs.Apart.{vec3-same, point-same, names-same, cache-same}
 use Rattle.contact_records.specs.Held.{Same, same-in, first-same}
 use Rattle.contact_records.specs.Layout as place
-use Rattle.contact_records.specs.Lists.{map-upto-same}
-use Rattle.contact_records.specs.Recorded.{intOf, pointsAt, manifoldAt, manifoldsAt, flagsAt, edgeAt, pairAt}
+use Rattle.contact_records.specs.Recorded.{intOf, flagsAt, edgeAt, pairAt}
 use Rattle.contact_range.specs.Range.{optionalFits}
 use Rattle.contact_range.specs.RangeLaws.{Fitting}
 use Rattle.contact_graph.specs.Effects.{differ, same-or-not}

@@ -13,8 +13,8 @@ use Rattle.rules.specs.Inputs.{Settings}
 use Rattle.data_structures.specs.BitVec.{blocksOf, setBits, Visited}
 use Rattle.data_structures.specs.BitVecLaws.{blocks-hold, set-length, visited-length, visited-take}
 use Rattle.collider.specs.Recorded.{settingsOf}
-use Rattle.contact_records.specs.Lists.{getD-map-upto, length-map-upto, length-zeros}
-use Rattle.contact_records.specs.Written.{zeros}
+use Rattle.manifold_records.specs.Lists.{getD-map-upto, length-map-upto, length-zeros}
+use Rattle.manifold_records.specs.Written.{zeros}
 use Rattle.contact_graph.specs.LaidOutLaws.{zeros-at}
 use Rattle.contact_range.specs.Range.{stands}
 use Rattle.contact_range.specs.RangeLaws.{first-of, rest-of}

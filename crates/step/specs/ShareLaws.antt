@@ -14,7 +14,7 @@ use Rattle.rules.specs.Update.{Updated}
 use Rattle.data_structures.specs.BitVec.{blocksOf, bitOf, bitAt}
 use Rattle.data_structures.specs.BitVecLaws.{blocks-hold}
 use Rattle.collider.specs.Recorded.{settingsOf}
-use Rattle.contact_records.specs.Lists.{getD-map-upto, length-map-upto}
+use Rattle.manifold_records.specs.Lists.{getD-map-upto, length-map-upto}
 use Rattle.contact_range.specs.Recorded.{capacityOf}
 use Rattle.contact_update.specs.Contact.{updateOf}
 use Rattle.contact_update.specs.Order.{graphAfterAll}

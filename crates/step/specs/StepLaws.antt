@@ -17,7 +17,7 @@ use Rattle.words.specs.Words.{floatWord}
 use Rattle.data_structures.specs.BitVec.{blocksOf, setBits}
 use Rattle.data_structures.specs.NumberLaws.{numbers-pass, numbers-ascending, numbers-length}
 use Rattle.collider.specs.Recorded.{settingsOf}
-use Rattle.contact_records.specs.Lists.{map-upto-same}
+use Rattle.manifold_records.specs.Lists.{map-upto-same}
 use Rattle.contact_range.specs.Checked.{Checked}
 use Rattle.contact_range.specs.Range.{stands}
 use Rattle.contact_range.specs.RangeLaws.{first-of}

@@ -18,8 +18,8 @@ use Rattle.rules.specs.Update.{isRecycled, Updated}
 use Rattle.words.specs.Words.{floatWord}
 use Rattle.data_structures.specs.BitVec.{blocksOf, cleared, marked}
 use Rattle.data_structures.specs.BitVecLaws.{blocks-hold}
-use Rattle.contact_records.specs.Lists.{getD-map-upto, length-map-upto, length-zeros}
-use Rattle.contact_records.specs.Written.{zeros}
+use Rattle.manifold_records.specs.Lists.{getD-map-upto, length-map-upto, length-zeros}
+use Rattle.manifold_records.specs.Written.{zeros}
 use Rattle.contact_range.specs.Range.{stands}
 use Rattle.contact_range.specs.Recorded.{capacityOf}
 use Rattle.contact_update.specs.After.{graphAfter}

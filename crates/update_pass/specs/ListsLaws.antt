@@ -18,7 +18,7 @@ use Rattle.rules.specs.Update.{isRecycled, Updated}
 use Rattle.words.specs.Words.{floatWord}
 use Rattle.data_structures.specs.BitVec.{marked}
 use Rattle.data_structures.specs.BitVecLaws.{length-marked}
-use Rattle.contact_records.specs.Lists.{getD-map-upto, length-map-upto}
+use Rattle.manifold_records.specs.Lists.{getD-map-upto, length-map-upto}
 use Rattle.contact_range.specs.Range.{stands}
 use Rattle.contact_range.specs.Recorded.{capacityOf}
 use Rattle.shares.specs.Counting.{sum}

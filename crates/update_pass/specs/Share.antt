@@ -8,7 +8,7 @@ use Rattle.rows.specs.Rows.{part}
 use Rattle.rules.specs.Inputs.{Settings}
 use Rattle.rules.specs.Update.{Updated}
 use Rattle.data_structures.specs.BitVec.{blocksOf, joined}
-use Rattle.contact_records.specs.Written.{zeros}
+use Rattle.manifold_records.specs.Written.{zeros}
 use Rattle.contact_range.specs.Range.{stands}
 use Rattle.contact_range.specs.Recorded.{capacityOf}
 use Rattle.contact_update.specs.Contact.{updateOf}

@@ -13,7 +13,7 @@ use Rattle.rules.specs.Update.{isRecycled, Updated}
 use Rattle.words.specs.Words.{wordAt, floatWord}
 use Rattle.data_structures.specs.BitVec.{marked}
 use Rattle.data_structures.specs.BitVecLaws.{blocks-hold}
-use Rattle.contact_records.specs.Lists.{map-upto-next, getD-map-upto, length-map-upto}
+use Rattle.manifold_records.specs.Lists.{map-upto-next, getD-map-upto, length-map-upto}
 use Rattle.contact_range.specs.Range.{stands}
 use Rattle.contact_range.specs.RangeLaws.{standing-below}
 use Rattle.contact_range.specs.Recorded.{capacityOf}

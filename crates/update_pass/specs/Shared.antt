@@ -9,7 +9,7 @@ use Rattle.rows.specs.Slots.{upto}
 use Rattle.rules.specs.Update.{isRecycled, Updated}
 use Rattle.words.specs.Words.{floatWord}
 use Rattle.data_structures.specs.BitVec.{blocksOf, marked, joined, numbersWith}
-use Rattle.contact_records.specs.Written.{zeros}
+use Rattle.manifold_records.specs.Written.{zeros}
 use Rattle.contact_range.specs.Range.{stands}
 use Rattle.contact_range.specs.Recorded.{capacityOf, listedCount, listedAt}
 use Rattle.shares.specs.Layout.{mostWorkers}

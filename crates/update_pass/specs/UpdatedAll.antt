@@ -16,7 +16,7 @@ use Rattle.rules.specs.Inputs.{Settings, Inputs}
 use Rattle.rules.specs.Outcome.{names-kept}
 use Rattle.rules.specs.Records.{Names, Pair}
 use Rattle.rules.specs.Update.{updated}
-use Rattle.contact_records.specs.Lists.{map-upto-same}
+use Rattle.manifold_records.specs.Lists.{map-upto-same}
 use Rattle.contact_graph.specs.AddedGraph.{listedPair}
 use Rattle.contact_range.specs.Checked.{Checked}
 use Rattle.contact_range.specs.Range.{stands}

@@ -4,9 +4,9 @@ ghost use Rattle.update_pass.specs.Share.{SharesReady, AllTaken};
 use crate::share::update_share;
 use collider::settings::Settings;
 use contact_range::layout::number_at;
-use contact_records::zeros::store_zeros;
 use data_structures::bit_vec::blocks;
 use data_structures::bit_vec::clear;
+use manifold_records::zeros::store_zeros;
 use shares::range::MOST_WORKERS;
 
 // Every part is cleared first, and every distance. Answers how many contacts were recycled.

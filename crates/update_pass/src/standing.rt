@@ -2,7 +2,7 @@
 ghost use mathlib.Core.Path.{_≡_};
 ghost use Prim.Native.Nat.{_*_, _≤_};
 ghost use lib.ListN.{length};
-ghost use Rattle.contact_records.specs.Written.{zeros};
+ghost use Rattle.manifold_records.specs.Written.{zeros};
 ghost use Rattle.data_structures.specs.BitVec.{Visited};
 ghost use Rattle.update_pass.specs.Share.{joinedParts};
 use data_structures::bit_vec::ones;

@@ -5,7 +5,7 @@ use Prim.Native.Nat.{_≤_, _<_, _+_, _*_, _-_}
 use native.Mathlib.Omega.{arith}
 use lib.ListN.{length, take}
 use Rattle.words.specs.Words.{wordAt}
-use Rattle.contact_records.specs.Recorded.{manifoldsAt}
+use Rattle.manifold_records.specs.Recorded.{manifoldsAt}
 use Rattle.contact_update.specs.After.{manifoldsPut}
 use Rattle.contact_update.specs.ManifoldTurns.{manifolds-turn, manifolds-all, left-turn}
 use Rattle.contact_update.specs.PutLaws.{Left}

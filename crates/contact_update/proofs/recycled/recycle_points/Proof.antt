@@ -4,7 +4,7 @@ use mathlib.Core.List.{map}
 use Prim.Native.Nat.{_≤_, _-_}
 use native.Mathlib.Omega.{arith}
 use lib.ListN.{length, take}
-use Rattle.contact_records.specs.Recorded.{pointsAt}
+use Rattle.manifold_records.specs.Recorded.{pointsAt}
 use Rattle.contact_update.specs.After.{pointsPut}
 use Rattle.contact_update.specs.PointLaws.{points-turn, points-all}
 use Rattle.contact_update.specs.Updates.{pointAfter}

@@ -9,7 +9,7 @@ use lib.ListN.{length, length-set, take}
 use Rattle.rows.specs.Slots.{upto}
 use Rattle.rules.specs.Filtering.{filtered, nonEmpty}
 use Rattle.collider.specs.Views.{plainSide}
-use Rattle.contact_records.specs.Counts.{FewPoints}
+use Rattle.manifold_records.specs.Counts.{FewPoints}
 use Rattle.contact_types.specs.Views.{manifoldOf}
 use Rattle.proposals.specs.Recorded.{proposedManifoldAt}
 use Rattle.narrow_phase.specs.ListLaws.{one-most}

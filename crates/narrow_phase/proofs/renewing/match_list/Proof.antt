@@ -7,7 +7,7 @@ use lib.ListN.{length, length-set, length-map}
 use Rattle.rows.specs.Arrays.{front}
 use Rattle.rules.specs.Matching.{byNumber, matchAll}
 use Rattle.contact_types.specs.Views.{manifoldOf, manifoldsOf}
-use Rattle.contact_records.specs.Counts.{FewPoints}
+use Rattle.manifold_records.specs.Counts.{FewPoints}
 use Rattle.narrow_phase.specs.MatchLaws.{matched-step, few-kept, list-matched, stored}
 use borrow.Author.Needs.{needs}
 use Rattle.narrow_phase.proofs.renewing.match_list.Statement.{statement}

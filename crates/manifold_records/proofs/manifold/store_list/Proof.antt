@@ -1,0 +1,44 @@
+-- `manifold_records::manifold::store_list` meets its contract. Assumes nothing.
+use mathlib.Core.Path.{_≡_, refl, ap, _∙_}
+use Prim.Native.Nat.{_≤_, _-_}
+use lib.ListN.{length, take}
+use Rattle.rows.specs.Rows.{put, each}
+use Rattle.rows.specs.EachLaws.{each-step}
+use Rattle.contact_types.specs.Views.{manifoldOf}
+use Rattle.manifold_records.specs.Lengths.{length-manifold}
+use Rattle.manifold_records.specs.Stored.{each-map}
+use Rattle.manifold_records.specs.Written.{manifoldWords}
+use borrow.Author.Needs.{needs}
+use Rattle.manifold_records.proofs.manifold.store_list.Statement.{statement}
+use Rattle.manifold_records.proofs.manifold.store_list.Tie as tie
+
+abbrev Inv-loop : tie.InvT-loop
+Inv-loop g₀ at n list k₀ g k = (k ≤ n) × (length g ≡ length g₀) × (g ≡ put g₀ at (each (λ m. manifoldWords (manifoldOf m)) (take k list)))
+
+abbrev μ-loop : tie.MeasureT-loop
+μ-loop g₀ at n list k₀ g k = n - k
+
+loop-holds : tie.Need-loop-holds Inv-loop μ-loop
+unfolding put
+loop-holds c = (search needs, refl, refl)
+
+store-manifold-requires : tie.Need-store-manifold-requires Inv-loop μ-loop
+store-manifold-requires c κs = (search needs, c .before .before .before .before .before .pre .2 .each _ _ (search needs))
+
+loop-again : tie.Need-loop-again Inv-loop μ-loop
+loop-again c =
+    let w = c .before .before .before .before .before .before in
+    let n : length (w .before .before .args .t3) ≡ 6 = search needs in
+    (search needs, search needs, each-step (λ m. manifoldWords (manifoldOf m)) 81 (λ m. length-manifold (manifoldOf m)) _ _ _ (w .loop .k) _ (w .loop .inv .2) (c .before .before .store-manifold .ensures) (search needs))
+
+returns : tie.Need-returns Inv-loop μ-loop
+returns c =
+    let s = c .before .before .before .args in
+    let e : c .before .loop .k ≡ s .n = search needs in
+    rw e at (c .before .loop .inv .2) ∙ ap (put (s .g .now) (s .at)) (each-map manifoldWords manifoldOf (take (s .n) (s .t3)))
+
+pub store-list-spec : {M : Type 1} → statement M
+store-list-spec =
+    tie.close
+    (tie.spec Inv-loop μ-loop loop-holds (search needs) (search needs) (search needs) (search needs) store-manifold-requires (search needs)
+    (search needs) loop-again (search needs) returns)

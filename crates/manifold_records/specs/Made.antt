@@ -1,0 +1,68 @@
+-- Structs made of words, field by field: what each call gives, put together. Assumes nothing.
+use mathlib.Core.Path.{_≡_, ap, _∙_}
+use Prim.Native.Nat.{ℕ, _+_, _*_, _≤_, _<_}
+use native.Mathlib.Nat.{add-zero, add-assoc, eq-or-lt-of-le}
+use native.Mathlib.Omega.{arith}
+use mathlib.Core.Logic.{inl, inr}
+use mathlib.Core.List.{List, map}
+use lib.ListN.{length, getD, take, set}
+use lib.Seq.{getD-set-same, getD-set-other}
+use lib.Ieee.{Float, binary32, ofBits}
+use Rattle.math.specs.declared.vec.Vec3.{Vec3}
+use Rattle.rows.specs.Rows.{part}
+use Rattle.rows.specs.Laws.{getD-part-lit}
+use Rattle.rows.specs.Slots.{upto}
+use Rattle.rules.specs.Records.{Point}
+use Rattle.contact_types.specs.Views.{pointOf, pointsOf, manifoldOf, manifoldsOf}
+use Rattle.contact_types.specs.declared.contact_manifold.ContactManifold.{ContactManifold}
+use Rattle.contact_types.specs.declared.contact_point.ContactPoint.{ContactPoint}
+use Rattle.words.specs.Words.{wordAt, floatAt, vec3At}
+use Rattle.manifold_records.specs.Counts.{FewPoints, LoadedManifold, LoadedManifolds}
+use Rattle.manifold_records.specs.Recorded.{pointAt, pointsAt, manifoldAt, manifoldsAt}
+
+-- a vector, of its words
+abbrev pub vec3By : ℕ → ℕ → ℕ → Vec3
+vec3By x y z = record { x = ofBits binary32 x; y = ofBits binary32 y; z = ofBits binary32 z }
+
+pub point-made : (w : List ℕ) {a b c : Vec3} {s t u v m x y : Float}
+    → a ≡ vec3At w 0 → b ≡ vec3At w 3 → c ≡ vec3At w 6 → s ≡ floatAt w 9 → t ≡ floatAt w 10 → u ≡ floatAt w 11 → v ≡ floatAt w 12 → m ≡ floatAt w 13 → x ≡ floatAt w 14 → y ≡ floatAt w 15
+    → _≡_ {A = Point} (record { anchor1 = a; anchor2 = b; point = c; penetration = s; basePenetration = t; normalImpulse = u; normalSpeed = v; warmStartNormal = m; warmStartTangent = record { x = x; y = y }; feature1 = wordAt w 16; feature2 = wordAt w 17 }) (pointAt w 0)
+unfolding pointAt
+point-made w a b c s t u v m x y =
+    λ i. record { anchor1 = a i; anchor2 = b i; point = c i; penetration = s i; basePenetration = t i; normalImpulse = u i; normalSpeed = v i; warmStartNormal = m i; warmStartTangent = record { x = x i; y = y i }; feature1 = wordAt w 16; feature2 = wordAt w 17 }
+
+-- a point at a place is the point at the front of its words
+point-of-part : (xs : List ℕ) (at : ℕ) → pointAt (part xs at 18) 0 ≡ pointAt xs at
+unfolding pointAt
+point-of-part xs at = simp (getD-part-lit, add-zero, add-assoc)
+
+-- the words were copied out, and made the point
+pub point-loaded : (xs : List ℕ) (at : ℕ) {ws : List ℕ} {p : Point} → ws ≡ part xs at 18 → p ≡ pointAt ws 0 → p ≡ pointAt xs at
+point-loaded xs at e q = q ∙ ap (λ (vs : List ℕ). pointAt vs 0) e ∙ point-of-part xs at
+
+pub manifold-loaded : (xs : List ℕ) (at : ℕ) {n : ℕ} {ps : List ContactPoint} {a b : Vec3} {f r : Float}
+    → n ≡ wordAt xs at → map pointOf (take n ps) ≡ pointsAt xs (at + 9) n → a ≡ vec3At xs (at + 1) → f ≡ floatAt xs (at + 4) → r ≡ floatAt xs (at + 5) → b ≡ vec3At xs (at + 6)
+    → LoadedManifold xs at (record { points = ps; count = n; normal = a; friction = f; restitution = r; «tangent_velocity» = b })
+unfolding manifoldAt manifoldOf pointsOf
+manifold-loaded xs at c p a f r b =
+    record {
+      manifold = λ i. record { points = (p ∙ ap (pointsAt xs (at + 9)) c) i; normal = a i; friction = f i; restitution = r i; tangentVelocity = b i };
+      count = c;
+    }
+
+-- one more manifold in the array
+pub few-step : (list : List ContactManifold) (k : ℕ) (m : ContactManifold) → FewPoints list k → m .count ≤ 4 → k < length list → FewPoints (set list k m) (k + 1)
+few-step list k m f l h = record { each = go }
+  where
+    go : (j : ℕ) (d : ContactManifold) → j < k + 1 → getD (set list k m) j d .count ≤ 4
+    go j d i =
+        elim (eq-or-lt-of-le (let z : j ≤ k = omega arith in z)) [
+          | inl z ↦ rw (z, getD-set-same list k m d h) l
+          | inr z ↦ rw (getD-set-other list k j m d (omega arith)) (f .each j d z)
+        ]
+
+pub manifolds-loaded : (xs : List ℕ) (at : ℕ) {n : ℕ} {list : List ContactManifold} → n ≡ wordAt xs at → n ≤ 6
+    → map manifoldOf (take n list) ≡ map (λ j. manifoldAt xs (at + 1 + j * 81)) (upto n) → FewPoints list n → LoadedManifolds xs at (record { list = list; count = n })
+unfolding manifoldsAt manifoldsOf
+manifolds-loaded xs at c l e f =
+    record { manifolds = e ∙ ap (λ (n : ℕ). map (λ (j : ℕ). manifoldAt xs (at + 1 + j * 81)) (upto n)) c; count = c; few = record { manifolds = l; points = f } }

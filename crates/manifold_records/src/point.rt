@@ -1,0 +1,98 @@
+// A contact point: 18 words.
+ghost use mathlib.Core.Path.{_≡_};
+ghost use Prim.Native.Nat.{_+_, _≤_};
+ghost use lib.ListN.{length};
+ghost use Rattle.rows.specs.Rows.{put};
+ghost use Rattle.contact_types.specs.Views.{pointOf};
+ghost use Rattle.manifold_records.specs.Recorded.{pointAt};
+ghost use Rattle.manifold_records.specs.Written.{pointWords};
+ghost use Rattle.manifold_records.specs.Made.{vec3By};
+use contact_types::contact_point::ContactPoint;
+use contact_types::feature_id::PackedFeatureId;
+use math::bits::bits_of;
+use math::bits::float_of;
+use math::vec::Vec2;
+use math::vec::Vec3;
+use words::row::load_words;
+use words::row::store_words;
+
+fn vec3_of(x: u32, y: u32, z: u32) -> Vec3
+    ensures { λ r. ⌜ r ≡ vec3By x y z ⌝ }
+{
+    Vec3 {
+        x: float_of(x),
+        y: float_of(y),
+        z: float_of(z),
+    }
+}
+
+// The struct, of its words.
+fn point_of(w: [u32; 18]) -> ContactPoint
+    ensures { λ r. ⌜ pointOf r ≡ pointAt w 0 ⌝ }
+{
+    ContactPoint {
+        anchor1: vec3_of(w[0], w[1], w[2]),
+        anchor2: vec3_of(w[3], w[4], w[5]),
+        point: vec3_of(w[6], w[7], w[8]),
+        penetration: float_of(w[9]),
+        base_penetration: float_of(w[10]),
+        normal_impulse: float_of(w[11]),
+        normal_speed: float_of(w[12]),
+        warm_start_normal_impulse: float_of(w[13]),
+        warm_start_tangent_impulse: Vec2 {
+            x: float_of(w[14]),
+            y: float_of(w[15]),
+        },
+        feature_id1: PackedFeatureId(w[16]),
+        feature_id2: PackedFeatureId(w[17]),
+    }
+}
+
+pub fn load_point(g: &[u32], at: usize) -> ContactPoint
+    requires { ⌜ at + 18 ≤ length (now g) ⌝ }
+    ensures { λ r. ⌜ pointOf r ≡ pointAt (now (g .entry)) at ⌝ }
+{
+    let mut w = [0u32; 18];
+    load_words(g, at, &mut w);
+    point_of(w)
+}
+
+// The words, as a value.
+fn point_words(p: ContactPoint) -> [u32; 18]
+    ensures { λ r. ⌜ r ≡ pointWords (pointOf p) ⌝ }
+{
+    let a = p.anchor1;
+    let b = p.anchor2;
+    let c = p.point;
+    let t = p.warm_start_tangent_impulse;
+    let f1 = p.feature_id1;
+    let f2 = p.feature_id2;
+    [
+        bits_of(a.x),
+        bits_of(a.y),
+        bits_of(a.z),
+        bits_of(b.x),
+        bits_of(b.y),
+        bits_of(b.z),
+        bits_of(c.x),
+        bits_of(c.y),
+        bits_of(c.z),
+        bits_of(p.penetration),
+        bits_of(p.base_penetration),
+        bits_of(p.normal_impulse),
+        bits_of(p.normal_speed),
+        bits_of(p.warm_start_normal_impulse),
+        bits_of(t.x),
+        bits_of(t.y),
+        f1.0,
+        f2.0,
+    ]
+}
+
+pub fn store_point(g: &mut [u32], at: usize, p: ContactPoint)
+    requires { ⌜ at + 18 ≤ length (now g) ⌝ }
+    ensures { λ _. ⌜ now (g .exit) ≡ put (now (g .entry)) at (pointWords (pointOf p)) ⌝ }
+{
+    let w = point_words(p);
+    store_words(g, at, &w);
+}
