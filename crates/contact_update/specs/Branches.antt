@@ -27,27 +27,12 @@ use Rattle.contact_types.specs.Views.{manifoldsOf}
 use Rattle.contact_range.specs.RangeLaws.{first-of, rest-of}
 use Rattle.contact_update.specs.After.{afterWords}
 use Rattle.contact_update.specs.Made.{skippedUpdate, apartUpdate, recycledUpdate, overlapped}
-use Rattle.contact_update.specs.Updates.{BelowLimit, Updates, SkippedIs, RenewedTo}
+use Rattle.contact_update.specs.Updates.{BelowLimit, Updates, SkippedIs}
 use Rattle.contact_update.specs.declared.record.Outcome.{Outcome}
-use Rattle.contact_update.specs.declared.renewal.Renewal.{Renewal}
 
 -- the same update
 pub updates-by : {u v : Updated} {before after : List ℕ} {r : Outcome} → v ≡ u → Updates u before after r → Updates v before after r
 updates-by {u} {v} {before} {after} {r} e h = subst (λ (x : Updated). Updates x before after r) (sym e) h
-
--- ---- rules 6 to 12
-pub full-updates : (u : Updated) (w : List ℕ) (new : Renewal) {after : List ℕ} → RenewedTo u new
-    → after ≡ put w 9 (flagsWords (flagsOf (new .flags)) ++ new .change ∷ 0 ∷ cacheWords (some (cachedOf (new .cache))) ++ manifoldsWords (manifoldsOf (new .manifolds)))
-    → Updates u w after (record { bit = new .bit; recycled = false; distance = new .distance })
-unfolding afterWords stateWords ofBits toBits
-full-updates u w new r e =
-    record {
-      words = e ∙ (λ i. put w 9 (flagsWords (r .flags i) ++ r .change i ∷ floatWord (r .speculative i) ∷ cacheWords (r .cache i) ++ manifoldsWords (r .manifolds .manifolds i)))
-          ∙ ap (λ (x : Way). afterWords x (u .pair) w) (sym (r .way));
-      bit = r .bit;
-      recycled = sym (ap isRecycled (r .way));
-      distance = r .distance;
-    }
 
 -- ---- rule 4
 -- whether the pair recycles, as the code asks

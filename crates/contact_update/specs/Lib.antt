@@ -13,6 +13,7 @@ pub mod PointLaws
 pub mod ManifoldTurns
 pub mod Branches
 pub mod RenewLaws
+pub mod MatchTurns
 pub mod RecordReads
 pub mod Contact
 pub mod ContactLaws

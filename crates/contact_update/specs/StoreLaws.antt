@@ -1,9 +1,7 @@
 -- The words that a full update stores, one part after another. Assumes nothing.
 use mathlib.Core.Path.{_≡_, refl, ap, _∙_}
-use Prim.Native.Nat.{ℕ, _+_}
-use native.Mathlib.Omega.{arith}
+use Prim.Native.Nat.{ℕ}
 use mathlib.Core.List.{List, [], _∷_, _++_}
-use lib.ListN.{length}
 use Rattle.rows.specs.Laws.{put-next}
 use Rattle.rows.specs.Rows.{put}
 use Rattle.rules.specs.Records.{PairFlags}
@@ -17,11 +15,6 @@ module _ (w : List ℕ) (f : PairFlags) (change : ℕ) where
       let q2 : b ≡ put w 9 (fs ++ change ∷ []) = q ∙ ap (λ (x : List ℕ). put x 18 (change ∷ [])) p ∙ put-next w 9 fs (change ∷ []) 9 refl in
       r ∙ ap (λ (x : List ℕ). put x 19 (0 ∷ [])) q2 ∙ put-next w 9 (fs ++ change ∷ []) (0 ∷ []) 10 refl
 
-  pub renewal-stored : (cache manifolds : List ℕ) {a b c : List ℕ} → length cache ≡ 16 → a ≡ put w 9 (flagsWords f ++ change ∷ 0 ∷ []) → b ≡ put a 20 cache → c ≡ put b 36 manifolds
-      → c ≡ put w 9 (flagsWords f ++ change ∷ 0 ∷ cache ++ manifolds)
+  pub renewal-stored : (cache : List ℕ) {a b : List ℕ} → a ≡ put w 9 (flagsWords f ++ change ∷ 0 ∷ []) → b ≡ put a 20 cache → b ≡ put w 9 (flagsWords f ++ change ∷ 0 ∷ cache)
   unfolding flagsWords
-  renewal-stored cache manifolds {a} {b} l p q r =
-      let head = flagsWords f ++ change ∷ 0 ∷ [] in
-      let q2 : b ≡ put w 9 (head ++ cache) = q ∙ ap (λ (x : List ℕ). put x 20 cache) p ∙ put-next w 9 head cache 11 refl in
-      let n : length (head ++ cache) ≡ 27 = omega (arith, l) in
-      r ∙ ap (λ (x : List ℕ). put x 36 manifolds) q2 ∙ put-next w 9 (head ++ cache) manifolds 27 n
+  renewal-stored cache p q = q ∙ ap (λ (x : List ℕ). put x 20 cache) p ∙ put-next w 9 (flagsWords f ++ change ∷ 0 ∷ []) cache 11 refl

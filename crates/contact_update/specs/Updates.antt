@@ -1,34 +1,39 @@
 -- What the functions of an update promise of a contact's words. Definitions only.
-use Prim.Native.Nat.{ℕ, _<_}
+use Prim.Native.Nat.{ℕ, _≤_, _<_}
 use mathlib.Core.Path.{_≡_}
-use mathlib.Core.Bool.{true, false}
+use mathlib.Core.Bool.{true, false, not}
 use mathlib.Core.List.{List, map}
 use mathlib.Core.Option.{Option, some}
+use lib.Dec.{eqb}
+use lib.IntN.{pos, _-ℤ_}
 use lib.ListN.{length}
 use Rattle.math.specs.Constants.{zeroF}
+use Rattle.math.specs.Floats.{_⊕_}
 use Rattle.math.specs.declared.vec.Vec3.{Vec3}
-use Rattle.rules.specs.Inputs.{Settings}
+use Rattle.rows.specs.Rows.{put}
+use Rattle.rules.specs.Inputs.{Settings, Collider}
 use Rattle.rules.specs.Limits.{bodies}
 use Rattle.rules.specs.Matching.{withPoints}
-use Rattle.rules.specs.Records.{Point, Manifold, Pair}
+use Rattle.rules.specs.Records.{Point, Manifold, PairFlags, Pair}
 use Rattle.rules.specs.Recycling.{withPenetration}
-use Rattle.rules.specs.Update.{full, isRecycled, Updated}
+use Rattle.rules.specs.Sides.{Side}
+use Rattle.rules.specs.Surface.{Surface}
+use Rattle.rules.specs.Update.{isRecycled, Updated, cacheOf, enabled, matched, renewedFlags, statusBit}
 use Rattle.collider.specs.Layout.{collidersLength, bodiesLength}
 use Rattle.collider.specs.Range.{collidersFit}
-use Rattle.contact_records.specs.Layout.{contactSize}
+use Rattle.contact_records.specs.Layout.{contactSize, manifoldsPlace}
+use Rattle.manifold_records.specs.Recorded.{manifoldsAt}
 use Rattle.contact_records.specs.Recorded.{pairAt}
 use Rattle.contact_records.specs.StateViews.{flagsOf, cachedOf}
+use Rattle.manifold_records.specs.Written.{manifoldsWords}
 use Rattle.contact_records.specs.Written.{intWord}
-use Rattle.contact_types.specs.Views.{manifoldsOf}
 use Rattle.contact_range.specs.RangeLaws.{Fitting}
 use Rattle.proposals.specs.Layout.{proposalSize}
 use Rattle.proposals.specs.Range.{Proposed}
 use Rattle.contact_parameters.specs.Motions.{penetrationAfter}
 use Rattle.contact_parameters.specs.declared.recycling.Motion.{Motion}
-use Rattle.narrow_phase.specs.Views.{ManifoldsAre}
 use Rattle.contact_update.specs.After.{afterWords, recordUpdated}
 use Rattle.contact_update.specs.declared.record.Outcome.{Outcome}
-use Rattle.contact_update.specs.declared.renewal.OldState.{OldState}
 use Rattle.contact_update.specs.declared.renewal.Renewal.{Renewal}
 
 -- What an update asks of its words: their lengths, and that refusals 2 and 6 have nothing to say of them.
@@ -74,17 +79,16 @@ abbrev pub manifoldAfter : Motion → Manifold → Manifold
 manifoldAfter motion m = withPoints m (map (pointAfter motion (m .normal)) (m .points))
 
 -- ---- rules 6 to 12
--- what a full update makes of a pair, by value
-pub record RenewedTo (u : Updated) (r : Renewal) : Type 0 where
-  pub way : u .way ≡ full
-  pub flags : flagsOf (r .flags) ≡ u .pair .flags
-  pub change : r .change ≡ intWord (u .pair .countChange)
-  pub speculative : zeroF ≡ u .pair .speculative
-  pub cache : some (cachedOf (r .cache)) ≡ u .pair .cache
-  pub manifolds : ManifoldsAre (u .pair .manifolds) (r .manifolds)
-  pub bit : r .bit ≡ u .bit
-  pub distance : r .distance ≡ u .distance
+-- The promise of `renew_manifolds`: of these new manifolds, matched, the words are stored.
+pub record ManifoldsRenewed (s : Settings) (news : List Manifold) (before after : List ℕ) (r : ℕ) : Type 0 where
+  pub words : after ≡ put before manifoldsPlace (manifoldsWords (matched s (manifoldsAt before manifoldsPlace) news))
+  pub count : length news ≡ r
+  pub few : r ≤ 6
 
--- and of every pair that has the old flags, speculative distance and manifolds
-pub record RenewsAs (u : Pair → Updated) (old : OldState) (r : Renewal) : Type 0 where
-  pub of-pair : (p : Pair) → flagsOf (old .flags) ≡ p .flags → old .speculative ≡ p .speculative → manifoldsOf (old .manifolds) ≡ p .manifolds → RenewedTo (u p) r
+-- The promise of `renew`: what a full update makes of a pair besides its manifolds, of which there were `old` and are `new`.
+pub record StateRenewed (c1 c2 : Collider) (a b : Side) (f : Surface) (given : PairFlags) (old new : ℕ) (r : Renewal) : Type 0 where
+  pub flags : flagsOf (r .flags) ≡ renewedFlags given (a .fixed) (b .fixed) (enabled c1 c2 a b) (not (eqb new 0))
+  pub change : r .change ≡ intWord (pos new -ℤ pos old)
+  pub cache : cachedOf (r .cache) ≡ cacheOf a b
+  pub bit : r .bit ≡ statusBit given (enabled c1 c2 a b) (not (eqb new 0)) (pos new -ℤ pos old)
+  pub distance : r .distance ≡ f .margins ⊕ f .distance

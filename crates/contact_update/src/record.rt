@@ -16,8 +16,8 @@ ghost use Rattle.proposals.specs.Recorded.{proposalAt, hookAt};
 ghost use Rattle.contact_update.specs.Updates.{Ready, BelowLimit, UpdatesAs, SkippedIs, RecordUpdates};
 ghost use Rattle.contact_update.specs.Made.{apartUpdate, recycledUpdate, overlapped};
 use crate::recycled::recycle_words;
-use crate::renewal::OldState;
 use crate::renewal::renew;
+use crate::renewal::renew_manifolds;
 use crate::renewal::store_renewal;
 use collider::body_record::FoundBody;
 use collider::body_record::load_body;
@@ -30,12 +30,13 @@ use collider::overlap::overlap;
 use collider::settings::Settings;
 use collider::side::Side;
 use collider::side::side_of;
-use contact_parameters::recycling::recycle;
+use contact_range::layout::MANIFOLDS_PLACE;
 use contact_records::state::RecyclingCache;
 use contact_records::state::load_cache;
 use contact_records::state::load_flags;
 use contact_types::contact_manifold::ContactRecyclingCache;
-use manifold_records::manifold::load_manifolds;
+use contact_parameters::recycling::recycle;
+use contact_parameters::surface::surface_of;
 use words::row::load_float;
 use words::row::load_word;
 use words::row::store_word;
@@ -87,17 +88,16 @@ fn update_full(
     requires { ⌜ (length (now words) ≡ contactSize) × Counted (now words) manifoldsPlace × (length (now proposal) ≡ proposalSize) × Proposed (now proposal) 0 ⌝ }
     ensures { λ r. ⌜ UpdatesAs (renewed (plainSettings s) (hookAt (now (proposal .entry)) 0) (proposalAt (now (proposal .entry)) 0) (plainCollider c1) (plainCollider c2) (plainSide a) (plainSide b)) (now (words .entry)) (now (words .exit)) r ⌝ }
 {
-    let old = OldState {
-        flags: load_flags(words, 9),
-        speculative: load_float(words, 19),
-        manifolds: load_manifolds(words, 36),
-    };
-    let new = renew(s, c1, c2, a, b, proposal, old);
-    store_renewal(words, new);
+    let flags = load_flags(words, 9);
+    let old = load_word(words, MANIFOLDS_PLACE);
+    let f = surface_of(s, c1, c2, a, b, load_float(words, 19));
+    let new = renew_manifolds(words, s, a, b, f, flags.modify_contacts, proposal);
+    let r = renew(c1, c2, a, b, f, flags, old, new);
+    store_renewal(words, r);
     Outcome {
-        bit: new.bit,
+        bit: r.bit,
         recycled: false,
-        distance: new.distance,
+        distance: r.distance,
     }
 }
 

@@ -1,85 +1,138 @@
-// A full update of a pair: rules 6 to 12, on values, and the words that it writes.
+// A full update of a pair: rules 6 to 12. Its manifolds are made, matched and stored in one function, where their list stays in place:
+// passed by value it would be copied.
 ghost use mathlib.Core.Path.{_≡_};
+ghost use mathlib.Core.Bool.{cond, _&&_};
 ghost use mathlib.Core.List.{[], _∷_, _++_};
-ghost use Prim.Native.Nat.{_+_};
+ghost use Prim.Native.Nat.{_+_, _≤_};
+ghost use lib.Dec.{leb};
 ghost use lib.ListN.{length};
 ghost use Rattle.rows.specs.Rows.{put};
-ghost use Rattle.rules.specs.Update.{renewed};
+ghost use Rattle.rules.specs.Update.{remaining};
 ghost use Rattle.collider.specs.Views.{plainSettings, plainCollider, plainSide};
-ghost use Rattle.contact_types.specs.Views.{manifoldsOf};
-ghost use Rattle.manifold_records.specs.Counts.{FewManifolds};
-ghost use Rattle.manifold_records.specs.Written.{manifoldsWords};
-ghost use Rattle.contact_records.specs.Layout.{contactSize};
+ghost use Rattle.manifold_records.specs.Counts.{Counted};
+ghost use Rattle.contact_records.specs.Layout.{contactSize, manifoldsPlace};
 ghost use Rattle.contact_records.specs.StateViews.{flagsOf, cachedOf};
 ghost use Rattle.contact_records.specs.Written.{flagsWords, cacheWords};
 ghost use mathlib.Core.Option.{some};
+ghost use Rattle.contact_parameters.specs.Views.{plainSurface};
 ghost use Rattle.proposals.specs.Layout.{proposalSize};
 ghost use Rattle.proposals.specs.Range.{Proposed};
 ghost use Rattle.proposals.specs.Recorded.{proposalAt, hookAt};
-ghost use Rattle.contact_update.specs.Updates.{RenewsAs};
+ghost use Rattle.contact_update.specs.Updates.{ManifoldsRenewed, StateRenewed};
 use collider::collider_record::ColliderRecord;
 use collider::settings::Settings;
 use collider::side::Side;
-use contact_parameters::surface::surface_of;
+use contact_range::layout::MANIFOLD_SIZE;
+use contact_range::layout::MANIFOLDS_PLACE;
+use manifold_records::manifold::load_manifold;
+use manifold_records::manifold::store_manifold;
 use contact_records::state::ContactPairFlags;
 use contact_records::state::RecyclingCache;
 use contact_records::state::store_cache;
 use contact_records::state::store_flags;
 use contact_records::state::word_of_int;
-use contact_types::contact_manifold::ContactManifolds;
+use manifold_records::zeros::store_zeros;
 use contact_types::contact_manifold::ContactRecyclingCache;
-use manifold_records::manifold::store_manifolds;
+use math::constants::TENTH;
 use narrow_phase::manifold::remaining_manifolds;
 use narrow_phase::renewing::cache_of;
 use narrow_phase::renewing::count_change;
 use narrow_phase::renewing::is_enabled;
-use narrow_phase::renewing::match_manifolds;
 use narrow_phase::renewing::renewed_flags;
 use narrow_phase::renewing::status_bit;
+use contact_parameters::surface::Surface;
+use words::row::load_word;
 use words::row::store_word;
 
-// What an update starts from.
-pub struct OldState {
-    pub flags: ContactPairFlags,
-    pub speculative: f32,
-    pub manifolds: ContactManifolds,
-}
-
-// What it makes of a pair, and what it answers.
+// What an update makes of a pair besides its manifolds, and what it answers.
 pub struct Renewal {
     pub flags: ContactPairFlags,
     // The signed count change, as a word.
     pub change: u32,
     pub cache: ContactRecyclingCache,
-    pub manifolds: ContactManifolds,
     pub bit: bool,
     pub distance: f32,
 }
 
-pub fn renew(
+// How many old manifolds the new ones are matched against: none with matching off, or with more than four new ones.
+fn matched_count(s: Settings, old: u32, new: u32) -> u32
+    ensures { λ r. ⌜ r ≡ cond (s .«match_contacts» && leb new 4) old 0 ⌝ }
+{
+    if !s.match_contacts {
+        return 0;
+    }
+    if 4 < new {
+        return 0;
+    }
+    old
+}
+
+// Rules 9 to 11: the new manifolds, each matched against every old one in turn, take the place of the old. How many there are.
+pub fn renew_manifolds(
+    words: &mut [u32],
     s: Settings,
+    a: Side,
+    b: Side,
+    f: Surface,
+    modify: bool,
+    proposal: &[u32],
+) -> u32
+    requires { ⌜ (length (now words) ≡ contactSize) × Counted (now words) manifoldsPlace × (length (now proposal) ≡ proposalSize) × Proposed (now proposal) 0 ⌝ }
+    ensures { λ r. ⌜ ManifoldsRenewed (plainSettings s) (remaining (s .«step_time») (plainSide a) (plainSide b) (plainSurface f) modify (hookAt (now (proposal .entry)) 0) (proposalAt (now (proposal .entry)) 0)) (now (words .entry)) (now (words .exit)) r ⌝ }
+{
+    let mut new = remaining_manifolds(proposal, s.step_time, a, b, f, modify);
+    let n = new.count as usize;
+    let threshold = TENTH * s.length_unit;
+    let old = load_word(words, MANIFOLDS_PLACE);
+    let olds = matched_count(s, old, new.count) as usize;
+    let mut j = 0;
+    while j < olds {
+        let previous = load_manifold(words, MANIFOLDS_PLACE + 1 + j * MANIFOLD_SIZE);
+        let mut i = 0;
+        while i < n {
+            let m = new.list[i];
+            let matched = m.match_contacts(previous, threshold);
+            new.list[i] = matched;
+            i += 1;
+        }
+        j += 1;
+    }
+    store_word(words, MANIFOLDS_PLACE, new.count);
+    let mut k = 0;
+    while k < n {
+        let m = new.list[k];
+        store_manifold(words, MANIFOLDS_PLACE + 1 + k * MANIFOLD_SIZE, m);
+        k += 1;
+    }
+    store_zeros(
+        words,
+        MANIFOLDS_PLACE + 1 + n * MANIFOLD_SIZE,
+        486 - n * MANIFOLD_SIZE,
+    );
+    new.count
+}
+
+// Rules 6 and 12, from the surface and the two counts of manifolds.
+pub fn renew(
     c1: ColliderRecord,
     c2: ColliderRecord,
     a: Side,
     b: Side,
-    proposal: &[u32],
-    old: OldState,
+    f: Surface,
+    flags: ContactPairFlags,
+    old: u32,
+    new: u32,
 ) -> Renewal
-    requires { ⌜ (length (now proposal) ≡ proposalSize) × Proposed (now proposal) 0 × FewManifolds (old .manifolds) × (length (manifoldsOf (old .manifolds)) ≡ old .manifolds .count) ⌝ }
-    ensures { λ r. ⌜ RenewsAs (renewed (plainSettings s) (hookAt (now (proposal .entry)) 0) (proposalAt (now (proposal .entry)) 0) (plainCollider c1) (plainCollider c2) (plainSide a) (plainSide b)) old r ⌝ }
+    requires { ⌜ (old ≤ 6) × (new ≤ 6) ⌝ }
+    ensures { λ r. ⌜ StateRenewed (plainCollider c1) (plainCollider c2) (plainSide a) (plainSide b) (plainSurface f) (flagsOf flags) old new r ⌝ }
 {
-    let flags = old.flags;
-    let olds = old.manifolds;
-    let f = surface_of(s, c1, c2, a, b, old.speculative);
-    let news = remaining_manifolds(proposal, s.step_time, a, b, f, flags.modify_contacts);
-    let touching = news.count != 0;
+    let touching = new != 0;
     let enabled = is_enabled(c1, c2, a, b);
-    let change = count_change(olds.count, news.count);
+    let change = count_change(old, new);
     Renewal {
         flags: renewed_flags(flags, a.fixed, b.fixed, enabled, touching),
         change: word_of_int(change),
         cache: cache_of(a, b),
-        manifolds: match_manifolds(s, olds, news),
         bit: status_bit(flags, enabled, touching, change),
         distance: f.margins + f.distance,
     }
@@ -95,15 +148,13 @@ fn store_marks(words: &mut [u32], flags: ContactPairFlags, change: u32)
     store_word(words, 19, 0);
 }
 
-// All of a pair's own words.
+// A pair's own words before its manifolds.
 pub fn store_renewal(words: &mut [u32], r: Renewal)
-    requires { ⌜ (length (now words) ≡ contactSize) × FewManifolds (r .manifolds) ⌝ }
-    ensures { λ _. ⌜ now (words .exit) ≡ put (now (words .entry)) 9 (flagsWords (flagsOf (r .flags)) ++ r .change ∷ 0 ∷ cacheWords (some (cachedOf (r .cache))) ++ manifoldsWords (manifoldsOf (r .manifolds))) ⌝ }
+    requires { ⌜ length (now words) ≡ contactSize ⌝ }
+    ensures { λ _. ⌜ now (words .exit) ≡ put (now (words .entry)) 9 (flagsWords (flagsOf (r .flags)) ++ r .change ∷ 0 ∷ cacheWords (some (cachedOf (r .cache)))) ⌝ }
 {
     let flags = r.flags;
     let cache = r.cache;
-    let manifolds = r.manifolds;
     store_marks(words, flags, r.change);
     store_cache(words, 20, RecyclingCache::Cached(cache));
-    store_manifolds(words, 36, manifolds);
 }
