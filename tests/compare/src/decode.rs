@@ -1,7 +1,7 @@
 //! Words that passed the table's refusals (docs/BUFFERS.md) as the reference's typed values.
 
 use crate::oracle::StepRows;
-use crate::reference::*;
+use reference::*;
 
 struct Reader<'a> {
     words: &'a [u32],

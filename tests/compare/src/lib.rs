@@ -11,6 +11,5 @@ pub mod draws;
 pub mod encode;
 pub mod lists;
 pub mod oracle;
-pub mod reference;
 pub mod refusals;
 pub mod sides;

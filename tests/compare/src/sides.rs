@@ -1,13 +1,13 @@
 //! A list's two sides: the reference on typed values, and the library through the bindings. Each call goes to both, is answered by
 //! both, and is followed by a comparison of all that they hold.
 
+use crate::branches::reach;
 use crate::differences::{self, Compared, Difference, same};
 use crate::draws::StepSettings;
 use crate::encode;
 use crate::oracle::{self, StepRows};
-use crate::reach;
-use crate::reference::*;
 use crate::refusals::{Call, Refusals};
+use reference::*;
 use sardinerod::{Addition, PrunePoint, Refusal, Shares, World};
 
 pub struct Sides {

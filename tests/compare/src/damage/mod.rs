@@ -9,11 +9,11 @@ use crate::decode;
 use crate::differences::{self, Compared, Difference, same};
 use crate::draws::Rng;
 use crate::oracle;
-use crate::reference::{
-    self, CoefficientCombine, ContactId, ContactManifold, ContactPoint, PackedFeatureId, Vec3, vec3,
-};
 use crate::refusals::{Call, Refusals};
 use crate::sides::{Sides, add_pair, remove_pair};
+use reference::{
+    self, CoefficientCombine, ContactId, ContactManifold, ContactPoint, PackedFeatureId, Vec3, vec3,
+};
 use sardinerod::{Addition, ContactGraph, Shares, raw};
 
 /// None, one, or up to three at once, so that the order of the refusals is seen.

@@ -5,9 +5,9 @@ use crate::decode;
 use crate::differences::{self, Compared, Difference, same};
 use crate::draws::Rng;
 use crate::oracle::{self, StepRows};
-use crate::reference::CollisionDiagnostics;
 use crate::refusals::{Call, Refusals};
 use crate::sides::Sides;
+use reference::CollisionDiagnostics;
 use sardinerod::{ContactGraph, Shares, World, raw};
 
 /// A step's rows, of any lengths.

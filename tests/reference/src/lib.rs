@@ -12,9 +12,11 @@
 //! `reach!` counts how often a branch is reached; `reached` holds the counts that need more than the source computes. Neither
 //! changes anything, and both are compiled out without the feature `counts`.
 
+pub mod branches;
 pub mod components;
 pub mod contact_graph;
 pub mod contact_types;
+pub mod counts;
 pub mod data_structures;
 pub mod math;
 mod reached;

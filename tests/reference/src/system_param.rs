@@ -1,7 +1,7 @@
 //! From src/collision/narrow_phase/system_param.rs, with the feature `parallel`. Workers and the pairs that each takes are given.
 
 use super::*;
-use crate::reach;
+use crate::branches::reach;
 
 /// A thread-local context for the narrow phase contact updates.
 #[derive(Clone, Debug, Default)]
