@@ -5,7 +5,6 @@ pub mod arguments;
 pub mod branches;
 pub mod counts;
 pub mod damage;
-pub mod decode;
 pub mod differences;
 pub mod draws;
 pub mod encode;

@@ -12,6 +12,7 @@
 //! `reach!` counts how often a branch is reached; `reached` holds the counts that need more than the source computes. Neither
 //! changes anything, and both are compiled out without the feature `counts`.
 
+pub mod addition;
 pub mod branches;
 pub mod components;
 pub mod contact_graph;
@@ -21,7 +22,9 @@ pub mod data_structures;
 pub mod math;
 mod reached;
 pub mod system_param;
+pub mod words;
 
+pub use addition::*;
 pub use components::*;
 pub use contact_graph::*;
 pub use contact_types::*;
