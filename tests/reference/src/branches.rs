@@ -229,6 +229,14 @@ crate::branches! {
     "removed: the last pair itself",
 }
 
+impl Branches {
+    /// Those of one pair's update.
+    pub fn of_update() -> impl Iterator<Item = &'static str> {
+        let names = Self::NAMES.iter().copied();
+        names.take_while(|name| *name != "visited: bit word 0")
+    }
+}
+
 macro_rules! reach {
     ($($branch:tt)+) => {
         $crate::reach_in!($crate::branches::Branches; $($branch)+)

@@ -9,6 +9,8 @@
 //! (`contact_graph`), one list of events in the pass's order for two writers, each event with its contact's id, and the given
 //! workers for threads (`system_param`).
 //!
+//! `words` reads typed values from the words of docs/BUFFERS.md. `tables`, and the programs in src/bin, make stored outputs of crates/.
+//!
 //! `reach!` counts how often a branch is reached; `reached` holds the counts that need more than the source computes. Neither
 //! changes anything, and both are compiled out without the feature `counts`.
 
@@ -22,6 +24,7 @@ pub mod data_structures;
 pub mod math;
 mod reached;
 pub mod system_param;
+pub mod tables;
 pub mod words;
 
 pub use addition::*;

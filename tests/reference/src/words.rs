@@ -20,7 +20,9 @@ impl Reader<'_> {
     }
 
     fn mark(&mut self) -> bool {
-        self.word() == 1
+        let word = self.word();
+        assert!(word < 2);
+        word == 1
     }
 
     fn float(&mut self) -> f32 {
@@ -188,6 +190,11 @@ impl Reader<'_> {
     }
 }
 
+/// A body's row, if the body is there.
+pub fn body(row: &[u32]) -> Option<RigidBodyQuery> {
+    at(row, 0).body()
+}
+
 /// The edge and the pair of a contact's record.
 pub fn contact(id: ContactId, record: &[u32]) -> (ContactEdge, ContactPair) {
     let mut r = at(record, 0);
@@ -266,7 +273,7 @@ pub fn step(
                 .map(|n| at(rows.colliders, 23 * n).collider())
                 .collect(),
         ),
-        body_query: Query((0..128).map(|n| at(rows.bodies, 26 * n).body()).collect()),
+        body_query: Query((0..128).map(|n| body(&rows.bodies[26 * n..])).collect()),
         contact_graph,
         contact_status_changes: vec![],
         contact_status_bits: BitVec::default(),

@@ -1,13 +1,10 @@
-// The stack of crates/settling_stack from avian's own `NarrowPhase::update` and `ContactGraph`. It makes the expected output:
-// rustc --edition 2021 -O -o /tmp/settling_stack tests/settling_stack.rs && /tmp/settling_stack > crates/settling_stack/stdout
-// `update_contacts` and what it leans on are in tests/avian.rs, the graph and the step in tests/narrow_phase.rs: their heads say what
-// is carried over from where and what stands in for what. Here are the boxes, how they move, and the lines.
-#[allow(dead_code)]
-mod avian;
-#[allow(dead_code)]
-mod narrow_phase;
-use avian::*;
-use narrow_phase::*;
+//! The stack of crates/settling_stack: boxes that fall, shift and are lifted:
+//! cargo run --release --offline --bin settling_stack > ../../crates/settling_stack/stdout
+
+use reference::tables::calls::{Rows, Stepped, add, step};
+use reference::tables::hash::{Hash, bits, graph_hash};
+use reference::tables::reached::Counts;
+use reference::{Addition, ContactEdgeFlags, ContactGraph, ContactPair, Entity};
 
 const CAPACITY: usize = 64;
 
@@ -51,11 +48,7 @@ fn coefficient_words(n: usize, m: usize) -> [u32; 3] {
 fn collider_words(stack: &Stack, n: usize, step: u32) -> Vec<u32> {
     let p = stack[n].position;
     let half = |axis: usize| {
-        if n == FLOOR && axis != 1 {
-            5.05
-        } else {
-            0.55
-        }
+        if n == FLOOR && axis != 1 { 5.05 } else { 0.55 }
     };
     let present = !(n == 2 && step % 100 == 95);
     let sensor = n == 6 && step / 50 % 3 == 1;
@@ -118,7 +111,7 @@ fn move_along(placed: &mut Placed, axis: usize, to: f32) {
 // From the lowest up: each falls as far as the box below lets it, and shifts to and fro. Box 4 turns about y.
 fn move_boxes(stack: &mut Stack, step: u32) {
     let turn = [0.0, 0.05, 0.1][(step / 32 % 3) as usize];
-    let cosine = [1.0, 0.99874922, 0.99498744][(step / 32 % 3) as usize];
+    let cosine = [1.0, 0.998_749_2, 0.994_987_4][(step / 32 % 3) as usize];
     stack[4].rotation = [0.0, turn, 0.0, cosine];
     for n in 1..=BOXES {
         let rest = stack[n - 1].position[1] + 1.0;
@@ -281,7 +274,7 @@ fn print_line(graph: &ContactGraph, tally: &Tally, steps: u32) {
         .active_pairs
         .iter()
         .filter(|pair| {
-            let edge = graph.edges.edge_weight(pair.contact_id).unwrap();
+            let edge = graph.get_edge_by_id(pair.contact_id).unwrap();
             edge.flags.contains(ContactEdgeFlags::TOUCHING)
         })
         .count();
@@ -298,9 +291,10 @@ fn print_line(graph: &ContactGraph, tally: &Tally, steps: u32) {
 }
 
 // What the stack is to reach.
-const BRANCHES: [&str; 26] = [
-    "abandoned: angle",
-    "abandoned: distance",
+const BRANCHES: [&str; 27] = [
+    "abandoned: angle, equal",
+    "abandoned: distance, touching",
+    "abandoned: distance, not touching",
     "abandoned: no cache",
     "added: an id never given",
     "added: the id freed last of several",
@@ -350,11 +344,5 @@ fn main() {
             tally = Tally::NONE;
         }
     }
-    let reached = REACHED.take();
-    for (branch, count) in &reached {
-        eprintln!("{count:6} {branch}");
-    }
-    for branch in BRANCHES {
-        assert!(reached.contains_key(branch), "not reached: {branch}");
-    }
+    Counts::taken().at_least(1, BRANCHES);
 }

@@ -1,13 +1,12 @@
-// The table of crates/step_table: lists of additions, steps and impulses, each list on one contact graph, from avian's own
-// `NarrowPhase::update` and `ContactGraph`. It makes the expected output:
-// rustc --edition 2021 -O -o /tmp/step_lists tests/step_lists.rs && /tmp/step_lists > crates/step_table/stdout
-// `update_contacts` and what it leans on, and the draws of settings, colliders, bodies and proposals, are in tests/avian.rs, the graph
-// and the step in tests/narrow_phase.rs: their heads say what is carried over from where and what stands in for what. Each step is
-// made a second time by one worker in the list's order, and must give the same.
-mod avian;
-mod narrow_phase;
-use avian::*;
-use narrow_phase::*;
+//! The table of crates/step_table: lists of additions, steps and impulses, each list on one contact graph:
+//! cargo run --release --offline --bin step_table > ../../crates/step_table/stdout
+
+use reference::branches::Branches;
+use reference::tables::calls::{Rows, Stepped, add, step};
+use reference::tables::draws::*;
+use reference::tables::hash::{bits, graph_hash};
+use reference::tables::reached::{Counts, reach};
+use reference::{Addition, ContactGraph, ContactId, Entity};
 
 // ---- The lists' own draws.
 // A draw of a draw: two draws by one key lean on each other too much.
@@ -52,32 +51,33 @@ fn kind(call: u32, n: u32, capacity: usize) -> Kind {
     }
 }
 
-impl Rows {
-    fn draw_settings(&mut self, key: u32) {
-        for i in 0..10 {
-            self.settings[i] = setting_word(key, i as u32);
-        }
+fn draw_settings(rows: &mut Rows, key: u32) {
+    for (i, w) in rows.settings.iter_mut().enumerate() {
+        *w = setting_word(key, i as u32);
     }
+}
 
-    fn draw_collider(&mut self, key: u32, n: u32) {
-        for i in 0..23 {
-            self.colliders[23 * n as usize + i] = collider_word(key, n, i as u32);
-        }
+fn draw_collider(rows: &mut Rows, key: u32, n: u32) {
+    for (i, w) in rows.colliders[23 * n as usize..][..23]
+        .iter_mut()
+        .enumerate()
+    {
+        *w = collider_word(key, n, i as u32);
     }
+}
 
-    fn draw_body(&mut self, key: u32, n: u32) {
-        for i in 0..26 {
-            self.bodies[26 * n as usize + i] = body_word(key, n, i as u32);
-        }
+fn draw_body(rows: &mut Rows, key: u32, n: u32) {
+    for (i, w) in rows.bodies[26 * n as usize..][..26].iter_mut().enumerate() {
+        *w = body_word(key, n, i as u32);
     }
+}
 
-    // Position and rotation, word by word.
-    fn move_body(&mut self, key: u32, n: u32, wild: bool) {
-        let owner = draw(key, 20 + n);
-        for i in 2..9 {
-            let w = &mut self.bodies[26 * n as usize + i];
-            *w = moved_word(owner, i as u32, wild, *w);
-        }
+/// Position and rotation, word by word.
+fn move_body(rows: &mut Rows, key: u32, n: u32, wild: bool) {
+    let owner = draw(key, 20 + n);
+    for i in 2..9 {
+        let w = &mut rows.bodies[26 * n as usize + i];
+        *w = moved_word(owner, i as u32, wild, *w);
     }
 }
 
@@ -145,34 +145,34 @@ fn addition(call: u32, colliders: u32) -> Addition {
 // Settings, colliders and bodies: kept, or some drawn anew, or the bodies moved a little.
 fn draw_world(rows: &mut Rows, call: u32, colliders: u32) {
     if choice(call, 61) % 8 == 0 {
-        rows.draw_settings(call);
+        draw_settings(rows, call);
     }
     let one = choice(call, 63) % colliders;
     match choice(call, 62) % 16 {
         0 => {
             reach("world: all anew");
             for n in 0..colliders {
-                rows.draw_collider(call, n);
-                rows.draw_body(call, n);
+                draw_collider(rows, call, n);
+                draw_body(rows, call, n);
             }
         }
         1..=3 => {
             reach("world: a collider and its body anew");
-            rows.draw_collider(call, one);
-            rows.draw_body(call, one);
+            draw_collider(rows, call, one);
+            draw_body(rows, call, one);
         }
         4..=5 => {
             reach("world: a collider anew");
-            rows.draw_collider(call, one);
+            draw_collider(rows, call, one);
         }
         6 => {
             reach("world: a body anew");
-            rows.draw_body(call, one);
+            draw_body(rows, call, one);
         }
         7..=12 => {
             reach("world: bodies moved");
             for n in 0..colliders {
-                rows.move_body(call, n, style(call) == 2 && n == one);
+                move_body(rows, call, n, style(call) == 2 && n == one);
             }
         }
         _ => reach("world: kept"),
@@ -181,21 +181,17 @@ fn draw_world(rows: &mut Rows, call: u32, colliders: u32) {
 
 // The id freed last, if one is free; the lowest never given; none at all.
 fn inactive_id(graph: &ContactGraph, call: u32) -> u32 {
-    let given = graph.edges.raw_edges.len() as u32;
+    let given = graph.edges.raw_edges().len() as u32;
     match choice(call, 69) % 3 {
-        0 => graph.edges.free.last().map_or(given, |id| id.0),
+        0 => graph.edges.free().last().map_or(given, |id| id.0),
         1 => given,
-        _ => PLACEHOLDER.0,
+        _ => ContactId::PLACEHOLDER.0,
     }
 }
 
 // One past a limit, or the largest number.
 fn over(limit: u32, d: u32) -> u32 {
-    if d % 2 == 0 {
-        limit + 1
-    } else {
-        u32::MAX
-    }
+    if d % 2 == 0 { limit + 1 } else { u32::MAX }
 }
 
 // Those of the active pairs, at times with a count that is too large: of manifolds, of points, or of an id that is not active.
@@ -232,8 +228,8 @@ fn draw_proposals(rows: &mut Rows, graph: &ContactGraph, call: u32) {
 // The active pairs in any order, dealt to 1 to 8 workers; any words where none are read; at times damaged.
 fn draw_shares(rows: &mut Rows, graph: &ContactGraph, call: u32) {
     let row = &mut rows.shares;
-    for i in 0..row.len() {
-        row[i] = choice(call, 600 + i as u32);
+    for (i, w) in row.iter_mut().enumerate() {
+        *w = choice(call, 600 + i as u32);
     }
     let pairs = graph.active_pairs.len();
     for (k, pair) in graph.active_pairs.iter().enumerate() {
@@ -314,10 +310,10 @@ fn run(l: u32) -> u32 {
 
     let mut graph = ContactGraph::default();
     let mut rows = Rows::new(capacity);
-    rows.draw_settings(list);
+    draw_settings(&mut rows, list);
     for n in 0..colliders {
-        rows.draw_collider(list, n);
-        rows.draw_body(list, n);
+        draw_collider(&mut rows, list, n);
+        draw_body(&mut rows, list, n);
     }
     let mut last = Stepped::none(capacity);
     for n in 0..calls {
@@ -349,7 +345,7 @@ fn run(l: u32) -> u32 {
                 "I\t-".to_string()
             }
         };
-        let [events, changes, distances] = stepped_hashes(&last);
+        let [events, changes, distances] = last.hashes();
         println!(
             "{l}\t{n}\t{answer}\t{:08X}\t{events:08X}\t{changes:08X}\t{distances:08X}",
             graph_hash(&graph, capacity)
@@ -360,31 +356,19 @@ fn run(l: u32) -> u32 {
 
 const LISTS: u32 = 120;
 
-// Every branch of a list beside those of an update, the capacities and the numbers of workers. Each must be reached five times.
-const BRANCHES: [&str; 70] = [
+// A list's own branches beside the capacities and the numbers of workers.
+const BRANCHES: [&str; 43] = [
     "a worker without contacts",
-    "added: an id never given",
-    "added: the id freed last of several",
-    "added: the one id freed",
     "an order other than the list's",
     "colliders: 4",
     "colliders: 5",
     "colliders: 6",
-    "count change not written, a body unnamed",
-    "count change written, fewer",
-    "count change written, more",
-    "disjoint: end event",
-    "disjoint: no event, neither",
-    "disjoint: no event, not touching",
-    "disjoint: no event, touching without events",
-    "disjoint: no stop, no body named",
-    "disjoint: no stop, one body named",
-    "disjoint: not generating",
-    "disjoint: stop",
     "impulse written",
     "impulse written, NaN",
-    "no case: count change, not generating",
-    "no case: started generating, not touching",
+    "length unit 0",
+    "length unit NaN",
+    "length unit negative",
+    "length unit positive",
     "overfull: manifolds",
     "overfull: points",
     "pairs in a step: 1",
@@ -408,21 +392,6 @@ const BRANCHES: [&str; 70] = [
     "removals in a step: 0",
     "removals in a step: 1",
     "removals in a step: several",
-    "removed: the last pair itself",
-    "removed: the last pair takes the gap",
-    "started generating, touching",
-    "started generating, touching, count change left",
-    "started: both marks cleared",
-    "started: event",
-    "started: no event",
-    "started: not generating",
-    "started: start",
-    "stopped: event",
-    "stopped: no event",
-    "stopped: no stop, no body named",
-    "stopped: no stop, one body named",
-    "stopped: not generating",
-    "stopped: stop",
     "too many manifolds of an id not active",
     "too many points past the count",
     "visited after a removal",
@@ -434,18 +403,30 @@ const BRANCHES: [&str; 70] = [
     "world: kept",
 ];
 
+// The lists do not reach these five times.
+const SELDOM: [&str; 5] = [
+    "abandoned: distance, equal",
+    "matched by anchors crossed, a feature unknown",
+    "visited: bit word 1",
+    "visited: bit word 2",
+    "visited: bit word 3",
+];
+
 fn main() {
     let lines: u32 = (0..LISTS).map(run).sum();
-    let mut branches = update_branches();
-    branches.extend(BRANCHES.iter().map(|b| b.to_string()));
+    let mut own: Vec<String> = BRANCHES.iter().map(|b| b.to_string()).collect();
     for n in 1..9 {
-        branches.push(format!("capacity: {n}"));
-        branches.push(format!("workers: {n}"));
+        own.push(format!("capacity: {n}"));
+        own.push(format!("workers: {n}"));
     }
-    branches.push("capacity: 64".to_string());
-    let count = all_reached(&branches);
-    let steps: u32 = (1..9).map(|n| count(&format!("workers: {n}"))).sum();
-    let total = branches.len();
+    own.push("capacity: 64".to_string());
+    let often = Branches::NAMES.iter().filter(|b| !SELDOM.contains(b));
+    let counts = Counts::taken();
+    counts.none_but(&own);
+    counts.at_least(5, own.iter().map(String::as_str));
+    counts.at_least(5, often.copied());
+    let steps: u32 = (1..9).map(|n| counts.of(&format!("workers: {n}"))).sum();
+    let total = own.len() + Branches::NAMES.len() - SELDOM.len();
     eprintln!("{LISTS} lists, {lines} lines, {steps} steps not refused, {total} branches");
     assert!(lines <= 3000);
 }
