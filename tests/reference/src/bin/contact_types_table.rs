@@ -10,13 +10,13 @@ fn draw(key: u32, slot: u32) -> u32 {
     seeded(20260, key, slot)
 }
 
-// NaN and others of its kind, the infinities, the zeros, subnormal, huge and tiny numbers.
+/// NaN and others of its kind, the infinities, the zeros, subnormal, huge and tiny numbers.
 const AWKWARD: [u32; 16] = [
     0x7fc00000, 0xff800001, 0x7f800000, 0xff800000, 0x00000000, 0x80000000, 0x00000001, 0x807fffff,
     0x00800000, 0x7f7fffff, 0xff7fffff, 0x5e268890, 0xde268890, 0x1e3ce508, 0x49742400, 0xb58637bd,
 ];
 
-// Kinds: 0 one, 1 coarse, 2 common, 3 one in six awkward, 4 awkward.
+/// Kinds: 0 one, 1 coarse, 2 common, 3 one in six awkward, 4 awkward.
 fn pattern(d: u32, kind: u32) -> u32 {
     match kind {
         0 => 0x3f800000,
@@ -45,7 +45,8 @@ fn word(w: u32) {
 }
 
 // ---- Pruning.
-// The kind of the floats in a point of each shape: 1 and 9 lie in a plane, 3 on a line; 5, 6 and 7 are copies of 1, 3 and 4 points.
+
+/// The kind of the floats in a point of each shape: 1 and 9 lie in a plane, 3 on a line; 5, 6 and 7 are copies of 1, 3 and 4 points.
 const KINDS: [u32; 10] = [2, 2, 1, 2, 3, 3, 2, 1, 4, 1];
 
 fn anchor(key: u32, shape: u32) -> Vec3 {
@@ -66,7 +67,7 @@ fn copied(shape: u32, k: u32) -> u32 {
     }
 }
 
-// Units, zero, not of unit length, some with awkward floats.
+/// Units, zero, not of unit length, some with awkward floats.
 fn normal(owner: u32, slot: u32) -> Vec3 {
     let key = draw(owner, slot);
     match draw(key, 4) % 12 {
@@ -79,7 +80,7 @@ fn normal(owner: u32, slot: u32) -> Vec3 {
     }
 }
 
-// Its number is a feature, which pruning does not read.
+/// Its number is a feature, which pruning does not read.
 fn point(owner: u32, slot: u32, shape: u32, kind: u32, number_of: u32) -> ContactPoint {
     let key = draw(owner, slot);
     let anchor1 = anchor(key, shape);
@@ -87,7 +88,7 @@ fn point(owner: u32, slot: u32, shape: u32, kind: u32, number_of: u32) -> Contac
         .with_feature_ids(PackedFeatureId(number_of), PackedFeatureId::UNKNOWN)
 }
 
-// The numbers of the points that stay.
+/// The numbers of the points that stay.
 fn prune_case(c: u32) {
     let key = draw(c, 0);
     let shape = c % 10;
@@ -105,7 +106,8 @@ fn prune_case(c: u32) {
 }
 
 // ---- Matching.
-// 0.1, -0.1, 0, NaN, 1e10, 0.5, the float after 0.1, infinite.
+
+/// 0.1, -0.1, 0, NaN, 1e10, 0.5, the float after 0.1, infinite.
 const THRESHOLDS: [u32; 12] = [
     0x3dcccccd, 0x3dcccccd, 0x3dcccccd, 0x3dcccccd, 0x3dcccccd, 0xbdcccccd, 0x00000000, 0x7fc00000,
     0x501502f9, 0x3f000000, 0x3dccccce, 0x7f800000,
@@ -115,7 +117,7 @@ fn offset(d: u32) -> f32 {
     f32::from_bits(OFFSETS[(d % 8) as usize])
 }
 
-// A grid with small offsets; style 1 far from one another, 2 with awkward floats.
+/// A grid with small offsets; style 1 far from one another, 2 with awkward floats.
 fn spot(owner: u32, slot: u32, style: u32) -> Vec3 {
     let key = draw(owner, slot);
     if style == 1 {
@@ -131,7 +133,7 @@ fn spot(owner: u32, slot: u32, style: u32) -> Vec3 {
     )
 }
 
-// Few features, unknown ones among them; many; many and unknown ones; few known ones.
+/// Few features, unknown ones among them; many; many and unknown ones; few known ones.
 fn feature(owner: u32, slot: u32, style: u32) -> PackedFeatureId {
     let d = draw(owner, slot);
     PackedFeatureId(match style {
@@ -161,7 +163,7 @@ fn contact(owner: u32, slot: u32, features: u32, anchors: u32) -> ContactPoint {
     point
 }
 
-// The styles are the case's.
+/// The styles are the case's.
 fn manifold(case: u32, slot: u32) -> ContactManifold {
     let features = draw(case, 1) % 4;
     let anchors = draw(case, 2) % 4;
@@ -176,7 +178,7 @@ fn impulses(p: &ContactPoint) -> [u32; 3] {
     [p.warm_start_normal_impulse, tangent.x, tangent.y].map(bits)
 }
 
-// The impulses of each new point, after matching against the old manifolds in turn.
+/// The impulses of each new point, after matching against the old manifolds in turn.
 fn match_case(c: u32, name: &str, count: u32) {
     let key = draw(c, 1);
     let threshold = f32::from_bits(THRESHOLDS[(draw(key, 3) % 12) as usize]);

@@ -9,6 +9,7 @@ use reference::tables::reached::Counts;
 use reference::{CollisionDiagnostics, ContactGraph, ContactId, Edges, Quat, Vec3, words};
 
 // ---- The draws of the contact's record.
+
 fn point_word(case: u32, owner: u32, j: u32) -> u32 {
     match j {
         0..=5 => anchor(owner, j, style(case)),
@@ -27,12 +28,12 @@ fn manifold_word(case: u32, owner: u32, r: u32) -> u32 {
     }
 }
 
-// The record names collider 1 first.
+/// The record names collider 1 first.
 fn swapped(owner: u32) -> bool {
     draw(owner, 60) % 8 == 0
 }
 
-// At times a collider that is absent.
+/// At times a collider that is absent.
 fn collider_number(owner: u32, i: u32) -> u32 {
     if draw(owner, i) % 80 == 0 {
         254 + i
@@ -43,7 +44,7 @@ fn collider_number(owner: u32, i: u32) -> u32 {
     }
 }
 
-// A mark and a number: behind a mark of 0 any word.
+/// A mark and a number: behind a mark of 0 any word.
 fn named_word(owner: u32, slot: u32, j: u32) -> u32 {
     match j {
         0 => one_in(owner, slot, 2),
@@ -70,7 +71,7 @@ fn flag_word(owner: u32, i: u32) -> u32 {
     }
 }
 
-// All but the cache's words.
+/// All but the cache's words.
 fn record_word(case: u32, i: u32) -> u32 {
     let owner = draw(case, 40);
     match i {
@@ -89,13 +90,14 @@ fn record_word(case: u32, i: u32) -> u32 {
 }
 
 // ---- The cache: of the two bodies as they are, or a little moved.
+
 #[derive(Clone, Copy, Default)]
 struct Pose {
     position: Vec3,
     rotation: Quat,
 }
 
-// That of collider n's own body; an absent one is at the origin.
+/// That of collider n's own body; an absent one is at the origin.
 fn pose(rows: &Rows, n: usize) -> Pose {
     let named = rows.colliders[23 * n + 1] == 1;
     match words::body(&rows.bodies[26 * n..]) {
@@ -118,17 +120,17 @@ fn cache_of(a: Pose, b: Pose) -> [u32; 15] {
     .map(bits)
 }
 
-// 0.001, -0.002, 0.004, 0.01, 0.04, 0.1, 0.5, NaN.
+/// 0.001, -0.002, 0.004, 0.01, 0.04, 0.1, 0.5, NaN.
 const NUDGES: [u32; 8] = [
     0x3a83126f, 0xbb03126f, 0x3b83126f, 0x3c23d70a, 0x3d23d70a, 0x3dcccccd, 0x3f000000, 0x7fc00000,
 ];
 
-// 0.005, 0.01, -0.02, 0.04, 0.08, 0.15, 0.3, 0.5.
+/// 0.005, 0.01, -0.02, 0.04, 0.08, 0.15, 0.3, 0.5.
 const TURNS: [u32; 8] = [
     0x3ba3d70a, 0x3c23d70a, 0xbca3d70a, 0x3d23d70a, 0x3da3d70a, 0x3e19999a, 0x3e99999a, 0x3f000000,
 ];
 
-// One in four parts of the translation is moved, and one in six of the rotation.
+/// One in four parts of the translation is moved, and one in six of the rotation.
 fn nudge(owner: u32, j: u32) -> u32 {
     let d = draw(owner, 80 + j);
     if j < 11 && d % 4 == 0 {
@@ -144,7 +146,7 @@ fn moved(owner: u32, j: u32, w: u32) -> u32 {
     bits(f32::from_bits(w) + f32::from_bits(nudge(owner, j)))
 }
 
-// One in sixteen of the bodies' rotations is another.
+/// One in sixteen of the bodies' rotations is another.
 fn turned(owner: u32, j: u32, w: u32) -> u32 {
     if draw(owner, 80 + j / 4) % 16 == 0 {
         rotation(owner, 82 + j / 4, j % 4)
@@ -190,6 +192,7 @@ fn record(key: u32, rows: &Rows) -> Vec<u32> {
 }
 
 // ---- A case's line: its number, the bit, recycled or not, the distance, the number of manifolds, the hash.
+
 fn run(c: u32) {
     let key = draw(c, 0);
     let rows = rows(key);
@@ -230,7 +233,7 @@ const BRANCHES: [&str; 4] = [
     "length unit positive",
 ];
 
-// The cases do not reach these five times.
+/// The cases do not reach these five times.
 const SELDOM: [&str; 2] = [
     "matched by anchors crossed, a feature unknown",
     "not matched: anchors near, features known",

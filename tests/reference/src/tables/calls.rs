@@ -160,8 +160,20 @@ pub fn step(graph: &mut ContactGraph, capacity: usize, rows: &Rows) -> Result<St
     }
     let shares = shares.map_err(|why| {
         reach(format!("refused 7: {why}"));
-        7u32
+        7_u32
     })?;
+    reach_shares(&shares, &ids);
+    let before = graph.clone();
+    let stepped = update(graph, rows, &words::workers(&rows.shares, &before));
+    let mut other = before;
+    let alone = uncounted(|| update(&mut other, rows, &[(0..ids.len()).collect()]));
+    assert!(graph_hash(&other, capacity) == graph_hash(graph, capacity));
+    assert!(alone.hashes() == stepped.hashes());
+    assert!(alone.recycled == stepped.recycled);
+    Ok(stepped)
+}
+
+fn reach_shares(shares: &[Vec<u32>], ids: &[u32]) {
     reach(format!("workers: {}", shares.len()));
     if shares.iter().any(|own| own.is_empty()) {
         reach("a worker without contacts");
@@ -176,14 +188,6 @@ pub fn step(graph: &mut ContactGraph, capacity: usize, rows: &Rows) -> Result<St
         5..=8 => "pairs in a step: 5 to 8",
         _ => "pairs in a step: over 8",
     });
-    let before = graph.clone();
-    let stepped = update(graph, rows, &words::workers(&rows.shares, &before));
-    let mut other = before;
-    let alone = uncounted(|| update(&mut other, rows, &[(0..ids.len()).collect()]));
-    assert!(graph_hash(&other, capacity) == graph_hash(graph, capacity));
-    assert!(alone.hashes() == stepped.hashes());
-    assert!(alone.recycled == stepped.recycled);
-    Ok(stepped)
 }
 
 /// The reference's step by workers that are allowed.

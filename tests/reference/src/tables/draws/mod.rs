@@ -24,7 +24,7 @@ pub fn one_in(key: u32, slot: u32, n: u32) -> u32 {
 }
 
 /// NaN, the infinities, the zeros, subnormal, huge and tiny numbers.
-pub const AWKWARD: [u32; 16] = [
+const AWKWARD: [u32; 16] = [
     0x7fc00000, 0x7fc00000, 0x7f800000, 0xff800000, 0x00000000, 0x80000000, 0x00000001, 0x807fffff,
     0x00800000, 0x7f7fffff, 0xff7fffff, 0x5e268890, 0xde268890, 0x1e3ce508, 0x49742400, 0xb58637bd,
 ];

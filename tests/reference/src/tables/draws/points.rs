@@ -8,13 +8,13 @@ pub const OFFSETS: [u32; 8] = [
 ];
 
 /// -0.004, -0.005, -0.01, -0.02, -0.05, -0.1, -0.5, 0.01, 0.1, 0.5, 0, -0, 1, -2, -0.25, NaN.
-pub const PENETRATIONS: [u32; 16] = [
+const PENETRATIONS: [u32; 16] = [
     0xbb83126f, 0xbba3d70a, 0xbc23d70a, 0xbca3d70a, 0xbd4ccccd, 0xbdcccccd, 0xbf000000, 0x3c23d70a,
     0x3dcccccd, 0x3f000000, 0x00000000, 0x80000000, 0x3f800000, 0xc0000000, 0xbe800000, 0x7fc00000,
 ];
 
 /// Three floats each, one by its own draws.
-pub const NORMALS: [u32; 24] = [
+const NORMALS: [u32; 24] = [
     0, 0, 0x3f800000, 0, 0, 0x3f800000, 0, 0x3f800000, 0, 0x3f19999a, 0, 0x3f4ccccd, 0, 0xbf800000,
     0, 0x3f800000, 0, 0, 0x3f13cd3a, 0x3f13cd3a, 0x3f13cd3a, 0, 0, 0,
 ];
@@ -60,7 +60,7 @@ pub fn feature(case: u32, owner: u32, slot: u32) -> u32 {
     }
 }
 
-pub fn proposed_point_word(case: u32, owner: u32, j: u32) -> u32 {
+fn proposed_point_word(case: u32, owner: u32, j: u32) -> u32 {
     match j {
         0..=5 => anchor(owner, j, style(case)),
         6..=8 => float(owner, j, style(case)),
@@ -70,7 +70,7 @@ pub fn proposed_point_word(case: u32, owner: u32, j: u32) -> u32 {
 }
 
 /// 5 to 32 points in one of four, and all 32 in one of sixteen, else 0 to 4.
-pub fn proposed_count(owner: u32) -> u32 {
+fn proposed_count(owner: u32) -> u32 {
     let d = draw(owner, 0);
     match d % 16 {
         0 => 32,
@@ -79,7 +79,7 @@ pub fn proposed_count(owner: u32) -> u32 {
     }
 }
 
-pub fn proposed_manifold_word(case: u32, owner: u32, r: u32) -> u32 {
+fn proposed_manifold_word(case: u32, owner: u32, r: u32) -> u32 {
     match r {
         0 => proposed_count(owner),
         1..=3 => normal(owner, r - 1, style(case)),
@@ -88,7 +88,7 @@ pub fn proposed_manifold_word(case: u32, owner: u32, r: u32) -> u32 {
 }
 
 /// 0 to 6, seldom 0.
-pub fn manifold_count(owner: u32) -> u32 {
+fn manifold_count(owner: u32) -> u32 {
     let d = draw(owner, 1);
     if d % 12 == 0 { 0 } else { 1 + d / 12 % 6 }
 }
