@@ -1,4 +1,4 @@
-// How the programs that are compared with avian's Rust draw their cases, and how they print them (tests/avian.rs has the same draws).
+// How the programs that are compared with avian's Rust draw their cases, and how they print them (tests/reference has the same draws).
 pub mod bodies;
 pub mod colliders;
 pub mod draws;

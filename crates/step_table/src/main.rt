@@ -1,5 +1,5 @@
 // Prints what lists of additions, steps and impulses give, each list on one contact graph, a line for each call. The file stdout
-// holds what avian's Rust gives for the same lists (tests/step_lists.rs).
+// holds what avian's Rust gives for the same lists (tests/reference, step_table).
 mod bodies;
 mod calls;
 mod choices;

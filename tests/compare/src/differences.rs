@@ -5,7 +5,7 @@
 //! - a manifold's friction and restitution, if the pair's last full update combined them by the minimum or the maximum;
 //! - the reported contact distance, the margins' sum plus the result of a maximum.
 
-use crate::reference::{
+use reference::{
     self, CoefficientCombine, CollisionEvent, ContactEdge, ContactEdgeFlags, ContactManifold,
     ContactPair, ContactPairFlags, ContactPoint, ContactRecyclingCache, ContactStatusChange,
     Entity, NarrowPhase, Quat, Vec3,

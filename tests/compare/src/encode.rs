@@ -1,7 +1,7 @@
 //! The reference's typed values as those of the bindings.
 
 use crate::draws::StepSettings;
-use crate::reference::{self, ContactManifold, ContactPoint, Quat, Vec3};
+use reference::{self, ContactManifold, ContactPoint, Quat, Vec3};
 use sardinerod::{
     Body, Coefficient, CoefficientCombine, Collider, PackedFeatureId, ProposedManifold,
     ProposedPoint, Settings,

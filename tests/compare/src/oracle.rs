@@ -1,7 +1,7 @@
 //! The table of refusals, over words, from the specification's table and docs/BUFFERS.md. Each call answers the first number of its
 //! order whose condition holds, or 0. Each condition is counted where it is the first that holds.
 
-use crate::reach;
+use crate::branches::condition;
 use std::collections::HashSet;
 
 const CONTACT: usize = 523;
@@ -29,7 +29,7 @@ pub struct StepRows<'a> {
 macro_rules! any_of {
     ($($holds:expr => $name:literal),+ $(,)?) => {{
         $(if $holds {
-            reach!($name);
+            condition!($name);
             return true;
         })+
         false
@@ -86,7 +86,7 @@ pub fn step(rows: &StepRows) -> u32 {
 
 pub fn look_up(graph: &[u32], id: u32, answer: usize) -> u32 {
     if answer != 10 {
-        reach!("table 1: look up's answer");
+        condition!("table 1: look up's answer");
         return 1;
     }
     remove(graph, id)
@@ -144,7 +144,7 @@ fn capacity_misfits(graph: usize, capacity: u32) -> bool {
 
 fn graph_misfits(graph: &[u32]) -> bool {
     let Some(capacity) = graph.first() else {
-        reach!("table 1: graph without a capacity");
+        condition!("table 1: graph without a capacity");
         return true;
     };
     capacity_misfits(graph.len(), *capacity)
@@ -317,7 +317,7 @@ fn list_strays(graph: &[u32]) -> bool {
 
 fn ids_stray(given: u32, listed: &[u32], free: &[u32]) -> bool {
     if listed.iter().chain(free).any(|id| *id >= given) {
-        reach!("table 2: an id free or standing, never given");
+        condition!("table 2: an id free or standing, never given");
         return true;
     }
     let mut times_free = vec![0; given as usize];
@@ -346,7 +346,7 @@ fn pair_stands_twice(graph: &[u32]) -> bool {
 
 fn contact_strays(contact: &[u32]) -> bool {
     if let Some(mark) = contact[7..18].iter().position(|mark| is_no_mark(*mark)) {
-        reach!("table 2: contact's mark 1" + mark);
+        condition!("table 2: contact's mark 1" + mark);
         return true;
     }
     let manifolds = contact[36] as usize;
@@ -387,7 +387,7 @@ fn overfull(proposal: &[u32]) -> bool {
 fn shares_bad(shares: &[u32], active: &[u32]) -> bool {
     let workers = shares[0] as usize;
     if workers == 0 || workers > 8 {
-        reach!(if (workers == 0) {
+        condition!(if (workers == 0) {
             "table 7: no worker"
         } else {
             "table 7: over 8 workers"
@@ -397,7 +397,7 @@ fn shares_bad(shares: &[u32], active: &[u32]) -> bool {
     let total: u64 = shares[1..1 + workers].iter().map(|n| u64::from(*n)).sum();
     let entries = &shares[9..];
     if total > entries.len() as u64 {
-        reach!("table 7: more listed than the capacity");
+        condition!("table 7: more listed than the capacity");
         return true;
     }
     let listed = &entries[..total as usize];

@@ -1,13 +1,13 @@
 //! A list's two sides: the reference on typed values, and the library through the bindings. Each call goes to both, is answered by
 //! both, and is followed by a comparison of all that they hold.
 
+use crate::branches::reach;
 use crate::differences::{self, Compared, Difference, same};
 use crate::draws::StepSettings;
 use crate::encode;
 use crate::oracle::{self, StepRows};
-use crate::reach;
-use crate::reference::*;
 use crate::refusals::{Call, Refusals};
+use reference::*;
 use sardinerod::{Addition, PrunePoint, Refusal, Shares, World};
 
 pub struct Sides {
@@ -146,8 +146,8 @@ impl Sides {
         same("answer of an addition", expected, number(&answer))?;
         unchanged(before, &self.graph)?;
         if let Ok(id) = answer {
-            let ours = add_pair(&mut self.narrow_phase.contact_graph, addition);
-            same("id of an addition", ours.0, id.0)?;
+            let ours = add_pair(&mut self.narrow_phase.contact_graph, &typed(addition));
+            same("id of an addition", ours.unwrap().0, id.0)?;
         }
         Ok(())
     }
@@ -324,23 +324,16 @@ fn request(a: &Addition) -> [u32; 9] {
     ]
 }
 
-/// The reference's addition.
-pub fn add_pair(graph: &mut ContactGraph, a: &Addition) -> ContactId {
-    let (body1, body2) = (a.body1.map(Entity), a.body2.map(Entity));
-    let mut contact_edge = ContactEdge::new(Entity(a.collider1), Entity(a.collider2));
-    contact_edge.body1 = body1;
-    contact_edge.body2 = body2;
-    contact_edge
-        .flags
-        .set(ContactEdgeFlags::CONTACT_EVENTS, a.contact_events);
-    let added = graph.add_edge_with(contact_edge, |pair| {
-        pair.body1 = body1;
-        pair.body2 = body2;
-        pair.flags
-            .set(ContactPairFlags::MODIFY_CONTACTS, a.modify_contacts);
-        pair.speculative_distance = a.speculative_distance;
-    });
-    added.unwrap()
+fn typed(a: &Addition) -> reference::Addition {
+    reference::Addition {
+        collider1: Entity(a.collider1),
+        collider2: Entity(a.collider2),
+        body1: a.body1.map(Entity),
+        body2: a.body2.map(Entity),
+        contact_events: a.contact_events,
+        modify_contacts: a.modify_contacts,
+        speculative_distance: a.speculative_distance,
+    }
 }
 
 /// The reference's removal.

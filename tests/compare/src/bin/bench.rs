@@ -9,9 +9,9 @@
 compile_error!("the time is taken without counts: --no-default-features --features bench");
 
 use compare::draws::StepSettings;
-use compare::reference::*;
 use compare::refusals::Refusals;
 use compare::sides::Sides;
+use reference::*;
 use sardinerod::{Addition, Shares, raw};
 use std::hint::black_box;
 use std::time::Instant;

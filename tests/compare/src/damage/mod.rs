@@ -5,16 +5,16 @@ mod change;
 mod step;
 pub mod unread;
 
-use crate::decode;
 use crate::differences::{self, Compared, Difference, same};
 use crate::draws::Rng;
 use crate::oracle;
-use crate::reference::{
-    self, CoefficientCombine, ContactId, ContactManifold, ContactPoint, PackedFeatureId, Vec3, vec3,
-};
 use crate::refusals::{Call, Refusals};
-use crate::sides::{Sides, add_pair, remove_pair};
-use sardinerod::{Addition, ContactGraph, Shares, raw};
+use crate::sides::{Sides, remove_pair};
+use reference::{
+    self, Addition, CoefficientCombine, ContactId, ContactManifold, ContactPoint, Entity,
+    PackedFeatureId, Vec3, add_pair, vec3, words,
+};
+use sardinerod::{ContactGraph, Shares, raw};
 
 /// None, one, or up to three at once, so that the order of the refusals is seen.
 fn damages(rng: &mut Rng) -> usize {
@@ -105,17 +105,17 @@ fn add(rng: &mut Rng, sides: &Sides, refusals: &mut Refusals) -> Compared {
     if number != 0 {
         return unchanged(number, &before, &(graph, answer));
     }
-    let mut reference = decode::graph(&before.0);
+    let mut reference = words::graph(&before.0);
     let id = add_pair(&mut reference, &addition(&request));
-    same("id of an addition", id.0, answer[0])?;
+    same("id of an addition", id.unwrap().0, answer[0])?;
     same_graph(&reference, &graph)
 }
 
 fn addition(request: &[u32]) -> Addition {
-    let body = |k: usize| (request[k] == 1).then_some(request[k + 1]);
+    let body = |k: usize| (request[k] == 1).then_some(Entity(request[k + 1]));
     Addition {
-        collider1: request[0],
-        collider2: request[1],
+        collider1: Entity(request[0]),
+        collider2: Entity(request[1]),
         body1: body(2),
         body2: body(4),
         contact_events: request[6] == 1,
@@ -164,7 +164,7 @@ fn remove(rng: &mut Rng, sides: &Sides, refusals: &mut Refusals) -> Compared {
     if number != 0 {
         return unchanged(number, &before, &graph);
     }
-    let mut reference = decode::graph(&before);
+    let mut reference = words::graph(&before);
     remove_pair(&mut reference, ContactId(id));
     same_graph(&reference, &graph)
 }

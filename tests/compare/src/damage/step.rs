@@ -1,13 +1,12 @@
 //! A step on damaged rows.
 
 use super::{change, damages, unread};
-use crate::decode;
 use crate::differences::{self, Compared, Difference, same};
 use crate::draws::Rng;
 use crate::oracle::{self, StepRows};
-use crate::reference::CollisionDiagnostics;
 use crate::refusals::{Call, Refusals};
 use crate::sides::Sides;
+use reference::{CollisionDiagnostics, words};
 use sardinerod::{ContactGraph, Shares, World, raw};
 
 /// A step's rows, of any lengths.
@@ -131,8 +130,15 @@ pub fn step(rng: &mut Rng, sides: &Sides, shares: &Shares, refusals: &mut Refusa
 /// An accepted step: what the reference makes of the same words, and what is left of the rows that are written in part.
 fn stepped(before: &Step, after: &Step) -> Compared {
     let capacity = before.graph[0] as usize;
-    let (mut narrow_phase, hooks, mut shapes, delta_secs) = decode::step(&before.rows());
-    let workers = decode::workers(&before.shares, &narrow_phase.contact_graph);
+    let rows = words::Rows {
+        settings: &before.settings,
+        colliders: &before.colliders,
+        bodies: &before.bodies,
+        proposals: &before.proposals,
+    };
+    let (mut narrow_phase, hooks, mut shapes, delta_secs) =
+        words::step(rows, words::graph(&before.graph), capacity);
+    let workers = words::workers(&before.shares, &narrow_phase.contact_graph);
     let (mut events, mut diagnostics) = (vec![], CollisionDiagnostics::default());
     narrow_phase.update(
         &mut events,

@@ -6,7 +6,7 @@ mod world;
 
 pub use world::StepSettings;
 
-use crate::reference::{Vec3, vec3};
+use reference::{Vec3, vec3};
 use tables::AWKWARD;
 
 /// SplitMix64.

@@ -2,7 +2,7 @@
 
 use super::tables::*;
 use super::{Rng, Style};
-use crate::reference::*;
+use reference::*;
 
 impl Rng {
     pub fn speculative_distance(&mut self) -> f32 {

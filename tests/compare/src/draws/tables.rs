@@ -1,6 +1,6 @@
 //! Awkward values beside ordinary ones: zeros of both signs, subnormal numbers, infinities, NaN and the limits of comparisons.
 
-use crate::reference::{Quat, Vec3, quat, vec3};
+use reference::{Quat, Vec3, quat, vec3};
 
 const NAN: f32 = f32::NAN;
 const INF: f32 = f32::INFINITY;

@@ -2,7 +2,7 @@
 
 use super::tables::*;
 use super::{Rng, Style};
-use crate::reference::*;
+use reference::*;
 
 /// The settings of a step.
 #[derive(Clone, Copy, Debug)]

@@ -2,13 +2,13 @@
 
 mod step;
 
+use crate::branches::reach;
 use crate::damage;
 use crate::differences::Difference;
 use crate::draws::Rng;
-use crate::reach;
-use crate::reference::ContactId;
 use crate::refusals::Refusals;
 use crate::sides::{self, Sides};
+use reference::ContactId;
 use sardinerod::Addition;
 use std::fmt;
 

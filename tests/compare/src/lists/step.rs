@@ -1,12 +1,12 @@
 //! What a list's step is given: the world, the proposals, the workers.
 
 use super::List;
+use crate::branches::reach;
 use crate::damage::unread;
 use crate::differences::Difference;
 use crate::draws::Style;
-use crate::reach;
-use crate::reference::{ContactId, ContactManifold, Entity, NarrowPhase, Vec3};
 use crate::refusals::Refusals;
+use reference::{ContactId, ContactManifold, Entity, NarrowPhase, Vec3};
 use sardinerod::{Shares, World};
 
 impl List {

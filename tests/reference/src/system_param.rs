@@ -1,7 +1,7 @@
 //! From src/collision/narrow_phase/system_param.rs, with the feature `parallel`. Workers and the pairs that each takes are given.
 
 use super::*;
-use crate::reach;
+use crate::branches::reach;
 
 /// A thread-local context for the narrow phase contact updates.
 #[derive(Clone, Debug, Default)]
@@ -300,7 +300,7 @@ impl NarrowPhase {
     /// Also updates the [`ContactStatusBits`] resource to track status changes for each contact pair.
     /// Set bits correspond to contact pairs that were either added or removed,
     /// while unset bits correspond to contact pairs that were persisted.
-    fn update_contacts(
+    pub fn update_contacts(
         &mut self,
         delta_secs: f32,
         hooks: &Hooks,

@@ -1,6 +1,6 @@
 //! glam's names, scalar, in the order of the specification's 'Float leaves'. `chord_length` is from src/math/mod.rs.
 
-use crate::reach;
+use crate::branches::reach;
 use std::ops::{Add, AddAssign, Div, Mul, Sub};
 
 pub type Vector = Vec3;

@@ -1,7 +1,6 @@
-//! Words that passed the table's refusals (docs/BUFFERS.md) as the reference's typed values.
+//! Words that passed the table's refusals (docs/BUFFERS.md) as typed values.
 
-use crate::oracle::StepRows;
-use crate::reference::*;
+use super::*;
 
 struct Reader<'a> {
     words: &'a [u32],
@@ -21,7 +20,9 @@ impl Reader<'_> {
     }
 
     fn mark(&mut self) -> bool {
-        self.word() == 1
+        let word = self.word();
+        assert!(word < 2);
+        word == 1
     }
 
     fn float(&mut self) -> f32 {
@@ -189,6 +190,19 @@ impl Reader<'_> {
     }
 }
 
+/// A body's row, if the body is there.
+pub fn body(row: &[u32]) -> Option<RigidBodyQuery> {
+    at(row, 0).body()
+}
+
+/// The edge and the pair of a contact's record.
+pub fn contact(id: ContactId, record: &[u32]) -> (ContactEdge, ContactPair) {
+    let mut r = at(record, 0);
+    let edge = r.edge(id);
+    let pair = r.pair(&edge);
+    (edge, pair)
+}
+
 /// A graph.
 pub fn graph(words: &[u32]) -> ContactGraph {
     let [capacity, given, pairs, freed] =
@@ -196,9 +210,8 @@ pub fn graph(words: &[u32]) -> ContactGraph {
     let mut raw_edges = vec![None; given];
     let mut graph = ContactGraph::default();
     for id in &words[4..4 + pairs] {
-        let mut r = at(words, 4 + 2 * capacity + 523 * *id as usize);
-        let edge = r.edge(ContactId(*id));
-        let pair = r.pair(&edge);
+        let record = &words[4 + 2 * capacity + 523 * *id as usize..];
+        let (edge, pair) = contact(ContactId(*id), record);
         let key = PairKey::new(edge.collider1.index_u32(), edge.collider2.index_u32());
         graph.pair_set.insert(key);
         graph.active_pairs.push(pair);
@@ -224,10 +237,21 @@ pub fn workers(shares: &[u32], graph: &ContactGraph) -> Vec<Vec<usize>> {
         .collect()
 }
 
-/// What a step is given, and the step time. Proposals of ids that are not active are none.
-pub fn step(rows: &StepRows) -> (NarrowPhase, Hooks, Shapes, f32) {
-    let capacity = rows.graph[0] as usize;
-    let contact_graph = graph(rows.graph);
+/// The rows that a step reads beside graph and shares.
+#[derive(Clone, Copy)]
+pub struct Rows<'a> {
+    pub settings: &'a [u32],
+    pub colliders: &'a [u32],
+    pub bodies: &'a [u32],
+    pub proposals: &'a [u32],
+}
+
+/// What a step on a graph of that capacity is given, and the step time. Proposals of ids that are not active are none.
+pub fn step(
+    rows: Rows,
+    contact_graph: ContactGraph,
+    capacity: usize,
+) -> (NarrowPhase, Hooks, Shapes, f32) {
     let mut hooks = Hooks(vec![false; capacity]);
     let mut shapes = Shapes {
         proposed: vec![vec![]; capacity],
@@ -249,7 +273,7 @@ pub fn step(rows: &StepRows) -> (NarrowPhase, Hooks, Shapes, f32) {
                 .map(|n| at(rows.colliders, 23 * n).collider())
                 .collect(),
         ),
-        body_query: Query((0..128).map(|n| at(rows.bodies, 26 * n).body()).collect()),
+        body_query: Query((0..128).map(|n| body(&rows.bodies[26 * n..])).collect()),
         contact_graph,
         contact_status_changes: vec![],
         contact_status_bits: BitVec::default(),

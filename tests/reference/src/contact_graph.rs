@@ -1,7 +1,7 @@
 //! From src/collision/contact_types/contact_graph.rs. The entities' nodes are left out with the graph that they stand in.
 
 use super::{ContactEdge, ContactId, ContactPair, Entity, PairKey};
-use crate::reach;
+use crate::branches::reach;
 use std::collections::HashSet;
 
 /// Stands in for the `StableUnGraph`. A new id is the one freed last, else the lowest never given.

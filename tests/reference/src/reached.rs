@@ -1,7 +1,7 @@
 //! Branches whose counting needs more than the source computes there.
 
 use super::*;
-use crate::reach;
+use crate::branches::reach;
 
 pub fn matched_by_features(contact: &ContactPoint, previous: &ContactPoint) {
     reach!(match (contact.feature_id1.0, contact.feature_id2.0) {

@@ -9,17 +9,25 @@
 //! (`contact_graph`), one list of events in the pass's order for two writers, each event with its contact's id, and the given
 //! workers for threads (`system_param`).
 //!
+//! `words` reads typed values from the words of docs/BUFFERS.md. `tables`, and the programs in src/bin, make stored outputs of crates/.
+//!
 //! `reach!` counts how often a branch is reached; `reached` holds the counts that need more than the source computes. Neither
 //! changes anything, and both are compiled out without the feature `counts`.
 
+pub mod addition;
+pub mod branches;
 pub mod components;
 pub mod contact_graph;
 pub mod contact_types;
+pub mod counts;
 pub mod data_structures;
 pub mod math;
 mod reached;
 pub mod system_param;
+pub mod tables;
+pub mod words;
 
+pub use addition::*;
 pub use components::*;
 pub use contact_graph::*;
 pub use contact_types::*;

@@ -1,16 +1,16 @@
-// The table of crates/step_table: lists of additions, steps and impulses, each list on one contact graph, from avian's own
-// `NarrowPhase::update` and `ContactGraph`. It makes the expected output:
-// rustc --edition 2021 -O -o /tmp/step_lists tests/step_lists.rs && /tmp/step_lists > crates/step_table/stdout
-// `update_contacts` and what it leans on, and the draws of settings, colliders, bodies and proposals, are in tests/avian.rs, the graph
-// and the step in tests/narrow_phase.rs: their heads say what is carried over from where and what stands in for what. Each step is
-// made a second time by one worker in the list's order, and must give the same.
-mod avian;
-mod narrow_phase;
-use avian::*;
-use narrow_phase::*;
+//! The table of crates/step_table: lists of additions, steps and impulses, each list on one contact graph:
+//! cargo run --release --offline --bin step_table > ../../crates/step_table/stdout
+
+use reference::branches::Branches;
+use reference::tables::calls::{Rows, Stepped, add, step};
+use reference::tables::draws::*;
+use reference::tables::hash::{bits, graph_hash};
+use reference::tables::reached::{Counts, reach};
+use reference::{Addition, ContactGraph, ContactId, Entity};
 
 // ---- The lists' own draws.
-// A draw of a draw: two draws by one key lean on each other too much.
+
+/// A draw of a draw: two draws by one key lean on each other too much.
 fn choice(key: u32, slot: u32) -> u32 {
     draw(draw(key, slot), 0)
 }
@@ -24,7 +24,7 @@ fn list_capacity(list: u32) -> usize {
     }
 }
 
-// Six give room for fifteen pairs.
+/// Six give room for fifteen pairs.
 fn list_colliders(list: u32) -> u32 {
     if list_capacity(list) == 64 {
         6
@@ -39,7 +39,7 @@ enum Kind {
     Impulses,
 }
 
-// The first two calls are additions, at capacity 64 the first ten.
+/// The first two calls are additions, at capacity 64 the first ten.
 fn kind(call: u32, n: u32, capacity: usize) -> Kind {
     let first = if capacity == 64 { 10 } else { 2 };
     let d = choice(call, 60) % 16;
@@ -52,46 +52,47 @@ fn kind(call: u32, n: u32, capacity: usize) -> Kind {
     }
 }
 
-impl Rows {
-    fn draw_settings(&mut self, key: u32) {
-        for i in 0..10 {
-            self.settings[i] = setting_word(key, i as u32);
-        }
-    }
-
-    fn draw_collider(&mut self, key: u32, n: u32) {
-        for i in 0..23 {
-            self.colliders[23 * n as usize + i] = collider_word(key, n, i as u32);
-        }
-    }
-
-    fn draw_body(&mut self, key: u32, n: u32) {
-        for i in 0..26 {
-            self.bodies[26 * n as usize + i] = body_word(key, n, i as u32);
-        }
-    }
-
-    // Position and rotation, word by word.
-    fn move_body(&mut self, key: u32, n: u32, wild: bool) {
-        let owner = draw(key, 20 + n);
-        for i in 2..9 {
-            let w = &mut self.bodies[26 * n as usize + i];
-            *w = moved_word(owner, i as u32, wild, *w);
-        }
+fn draw_settings(rows: &mut Rows, key: u32) {
+    for (i, w) in rows.settings.iter_mut().enumerate() {
+        *w = setting_word(key, i as u32);
     }
 }
 
-// 0.001, -0.002, 0.004, 0.01, -0.02, 0.04, 0.1, 0.5.
+fn draw_collider(rows: &mut Rows, key: u32, n: u32) {
+    for (i, w) in rows.colliders[23 * n as usize..][..23]
+        .iter_mut()
+        .enumerate()
+    {
+        *w = collider_word(key, n, i as u32);
+    }
+}
+
+fn draw_body(rows: &mut Rows, key: u32, n: u32) {
+    for (i, w) in rows.bodies[26 * n as usize..][..26].iter_mut().enumerate() {
+        *w = body_word(key, n, i as u32);
+    }
+}
+
+/// Position and rotation, word by word.
+fn move_body(rows: &mut Rows, key: u32, n: u32, wild: bool) {
+    let owner = draw(key, 20 + n);
+    for i in 2..9 {
+        let w = &mut rows.bodies[26 * n as usize + i];
+        *w = moved_word(owner, i as u32, wild, *w);
+    }
+}
+
+/// 0.001, -0.002, 0.004, 0.01, -0.02, 0.04, 0.1, 0.5.
 const MOVES: [u32; 8] = [
     0x3a83126f, 0xbb03126f, 0x3b83126f, 0x3c23d70a, 0xbca3d70a, 0x3d23d70a, 0x3dcccccd, 0x3f000000,
 ];
 
-// NaN, the infinities, f32's largest, 1e6, -0, the least above 0.
+/// NaN, the infinities, f32's largest, 1e6, -0, the least above 0.
 const WILD: [u32; 8] = [
     0x7fc00000, 0x7fc00000, 0x7f800000, 0xff800000, 0x7f7fffff, 0x49742400, 0x80000000, 0x00000001,
 ];
 
-// One in four words of a position is moved, and one in eight of a rotation; of a wild body these are others.
+/// One in four words of a position is moved, and one in eight of a rotation; of a wild body these are others.
 fn moved_word(owner: u32, i: u32, wild: bool, w: u32) -> u32 {
     let d = choice(owner, 80 + i);
     let n = if i < 5 { 4 } else { 8 };
@@ -105,7 +106,7 @@ fn moved_word(owner: u32, i: u32, wild: bool, w: u32) -> u32 {
     }
 }
 
-// Of `colliders` colliders, at times one that is absent; at times the same twice.
+/// Of `colliders` colliders, at times one that is absent; at times the same twice.
 fn named_colliders(call: u32, colliders: u32) -> [u32; 2] {
     let (d, e) = (choice(call, 70), choice(call, 71));
     let first = match d % 40 {
@@ -120,7 +121,7 @@ fn named_colliders(call: u32, colliders: u32) -> [u32; 2] {
     [first, second]
 }
 
-// A body in two of three.
+/// A body in two of three.
 fn named_body(call: u32, slot: u32) -> Option<Entity> {
     if choice(call, slot) % 3 == 0 {
         None
@@ -142,63 +143,59 @@ fn addition(call: u32, colliders: u32) -> Addition {
     }
 }
 
-// Settings, colliders and bodies: kept, or some drawn anew, or the bodies moved a little.
+/// Settings, colliders and bodies: kept, or some drawn anew, or the bodies moved a little.
 fn draw_world(rows: &mut Rows, call: u32, colliders: u32) {
     if choice(call, 61) % 8 == 0 {
-        rows.draw_settings(call);
+        draw_settings(rows, call);
     }
     let one = choice(call, 63) % colliders;
     match choice(call, 62) % 16 {
         0 => {
             reach("world: all anew");
             for n in 0..colliders {
-                rows.draw_collider(call, n);
-                rows.draw_body(call, n);
+                draw_collider(rows, call, n);
+                draw_body(rows, call, n);
             }
         }
         1..=3 => {
             reach("world: a collider and its body anew");
-            rows.draw_collider(call, one);
-            rows.draw_body(call, one);
+            draw_collider(rows, call, one);
+            draw_body(rows, call, one);
         }
         4..=5 => {
             reach("world: a collider anew");
-            rows.draw_collider(call, one);
+            draw_collider(rows, call, one);
         }
         6 => {
             reach("world: a body anew");
-            rows.draw_body(call, one);
+            draw_body(rows, call, one);
         }
         7..=12 => {
             reach("world: bodies moved");
             for n in 0..colliders {
-                rows.move_body(call, n, style(call) == 2 && n == one);
+                move_body(rows, call, n, style(call) == 2 && n == one);
             }
         }
         _ => reach("world: kept"),
     }
 }
 
-// The id freed last, if one is free; the lowest never given; none at all.
+/// The id freed last, if one is free; the lowest never given; none at all.
 fn inactive_id(graph: &ContactGraph, call: u32) -> u32 {
-    let given = graph.edges.raw_edges.len() as u32;
+    let given = graph.edges.raw_edges().len() as u32;
     match choice(call, 69) % 3 {
-        0 => graph.edges.free.last().map_or(given, |id| id.0),
+        0 => graph.edges.free().last().map_or(given, |id| id.0),
         1 => given,
-        _ => PLACEHOLDER.0,
+        _ => ContactId::PLACEHOLDER.0,
     }
 }
 
-// One past a limit, or the largest number.
+/// One past a limit, or the largest number.
 fn over(limit: u32, d: u32) -> u32 {
-    if d % 2 == 0 {
-        limit + 1
-    } else {
-        u32::MAX
-    }
+    if d % 2 == 0 { limit + 1 } else { u32::MAX }
 }
 
-// Those of the active pairs, at times with a count that is too large: of manifolds, of points, or of an id that is not active.
+/// Those of the active pairs, at times with a count that is too large: of manifolds, of points, or of an id that is not active.
 fn draw_proposals(rows: &mut Rows, graph: &ContactGraph, call: u32) {
     for pair in &graph.active_pairs {
         let id = pair.contact_id.0;
@@ -229,11 +226,16 @@ fn draw_proposals(rows: &mut Rows, graph: &ContactGraph, call: u32) {
     }
 }
 
-// The active pairs in any order, dealt to 1 to 8 workers; any words where none are read; at times damaged.
+/// Which of the workers takes the pair at a place.
+fn worker_of(call: u32, place: usize, workers: u32) -> usize {
+    1 + (choice(call, 500 + place as u32) % workers) as usize
+}
+
+/// The active pairs in any order, dealt to 1 to 8 workers; any words where none are read; at times damaged.
 fn draw_shares(rows: &mut Rows, graph: &ContactGraph, call: u32) {
     let row = &mut rows.shares;
-    for i in 0..row.len() {
-        row[i] = choice(call, 600 + i as u32);
+    for (i, w) in row.iter_mut().enumerate() {
+        *w = choice(call, 600 + i as u32);
     }
     let pairs = graph.active_pairs.len();
     for (k, pair) in graph.active_pairs.iter().enumerate() {
@@ -246,11 +248,14 @@ fn draw_shares(rows: &mut Rows, graph: &ContactGraph, call: u32) {
     let workers = 1 + choice(call, 67) % 8;
     row[0] = workers;
     row[1..1 + workers as usize].fill(0);
-    let worker_of = |k: usize| 1 + (choice(call, 500 + k as u32) % workers) as usize;
     for k in 0..pairs {
-        row[worker_of(k)] += 1;
+        row[worker_of(call, k, workers)] += 1;
     }
+    damage_shares(row, graph, call, workers);
+}
 
+fn damage_shares(row: &mut [u32], graph: &ContactGraph, call: u32, workers: u32) {
+    let pairs = graph.active_pairs.len();
     let d = choice(call, 68);
     let (first, inactive) = (row[9], inactive_id(graph, call));
     let mut append = |id: u32| {
@@ -267,7 +272,7 @@ fn draw_shares(rows: &mut Rows, graph: &ContactGraph, call: u32) {
         }
         (2, 2..) => row[9] = row[9 + pairs - 1],
         (3, 1..) => append(first),
-        (4, 1..) => row[worker_of(pairs - 1)] -= 1,
+        (4, 1..) => row[worker_of(call, pairs - 1, workers)] -= 1,
         (5, 1..) => row[9] = inactive,
         (6, _) => append(inactive),
         (7, _) => row[1] = u32::MAX,
@@ -275,7 +280,7 @@ fn draw_shares(rows: &mut Rows, graph: &ContactGraph, call: u32) {
     }
 }
 
-// Half of the impulses of the stored points.
+/// Half of the impulses of the stored points.
 fn write_impulses(graph: &mut ContactGraph, call: u32) {
     for pair in graph.active_pairs.iter_mut() {
         let owner = choice(call, 300 + pair.contact_id.0);
@@ -302,57 +307,84 @@ fn write_impulses(graph: &mut ContactGraph, call: u32) {
     }
 }
 
-// ---- A list's lines: its number, the call's number and kind, the answer, and the hashes of the graph, and of the events, changes
-// and distances of the last step that was not refused. Gives the number of calls.
-fn run(l: u32) -> u32 {
-    let list = choice(l, 2);
-    let capacity = list_capacity(list);
-    let colliders = list_colliders(list);
-    let calls = 12 + choice(list, 62) % 19;
-    reach(format!("capacity: {capacity}"));
-    reach(format!("colliders: {colliders}"));
+// ---- The lists.
 
-    let mut graph = ContactGraph::default();
-    let mut rows = Rows::new(capacity);
-    rows.draw_settings(list);
-    for n in 0..colliders {
-        rows.draw_collider(list, n);
-        rows.draw_body(list, n);
+struct List {
+    capacity: usize,
+    colliders: u32,
+    graph: ContactGraph,
+    rows: Rows,
+    /// Of the last step that was not refused.
+    last: Stepped,
+}
+
+impl List {
+    fn new(list: u32) -> Self {
+        let capacity = list_capacity(list);
+        let colliders = list_colliders(list);
+        reach(format!("capacity: {capacity}"));
+        reach(format!("colliders: {colliders}"));
+        let mut rows = Rows::new(capacity);
+        draw_settings(&mut rows, list);
+        for n in 0..colliders {
+            draw_collider(&mut rows, list, n);
+            draw_body(&mut rows, list, n);
+        }
+        Self {
+            capacity,
+            colliders,
+            graph: ContactGraph::default(),
+            rows,
+            last: Stepped::none(capacity),
+        }
     }
-    let mut last = Stepped::none(capacity);
+
+    fn add(&mut self, call: u32) -> String {
+        let addition = addition(call, self.colliders);
+        match add(&mut self.graph, self.capacity, &addition) {
+            Ok(id) => format!("A\t{}", id.0),
+            Err(number) => format!("A\tR\t{number}"),
+        }
+    }
+
+    fn step(&mut self, call: u32) -> String {
+        draw_world(&mut self.rows, call, self.colliders);
+        draw_proposals(&mut self.rows, &self.graph, call);
+        draw_shares(&mut self.rows, &self.graph, call);
+        match step(&mut self.graph, self.capacity, &self.rows) {
+            Ok(stepped) => {
+                let (events, changes) = (stepped.events.len(), stepped.changes.len());
+                let recycled = stepped.recycled;
+                self.last = stepped;
+                format!("S\t{events}\t{changes}\t{recycled}")
+            }
+            Err(number) => format!("S\tR\t{number}"),
+        }
+    }
+
+    fn write_impulses(&mut self, call: u32) -> String {
+        write_impulses(&mut self.graph, call);
+        "I\t-".to_string()
+    }
+}
+
+/// A list's lines: its number, the call's number and kind, the answer, and the hashes of the graph, and of the events, changes and
+/// distances of the last step that was not refused. Gives the number of calls.
+fn run(l: u32) -> u32 {
+    let key = choice(l, 2);
+    let calls = 12 + choice(key, 62) % 19;
+    let mut list = List::new(key);
     for n in 0..calls {
-        let call = choice(list, 1000 + n);
-        let answer = match kind(call, n, capacity) {
-            Kind::Addition => match add(&mut graph, capacity, &addition(call, colliders)) {
-                Ok(id) => format!("A\t{}", id.0),
-                Err(number) => format!("A\tR\t{number}"),
-            },
-            Kind::Step => {
-                draw_world(&mut rows, call, colliders);
-                draw_proposals(&mut rows, &graph, call);
-                draw_shares(&mut rows, &graph, call);
-                match step(&mut graph, capacity, &rows) {
-                    Ok(stepped) => {
-                        last = stepped;
-                        format!(
-                            "S\t{}\t{}\t{}",
-                            last.events.len(),
-                            last.changes.len(),
-                            last.recycled
-                        )
-                    }
-                    Err(number) => format!("S\tR\t{number}"),
-                }
-            }
-            Kind::Impulses => {
-                write_impulses(&mut graph, call);
-                "I\t-".to_string()
-            }
+        let call = choice(key, 1000 + n);
+        let answer = match kind(call, n, list.capacity) {
+            Kind::Addition => list.add(call),
+            Kind::Step => list.step(call),
+            Kind::Impulses => list.write_impulses(call),
         };
-        let [events, changes, distances] = stepped_hashes(&last);
+        let [events, changes, distances] = list.last.hashes();
         println!(
             "{l}\t{n}\t{answer}\t{:08X}\t{events:08X}\t{changes:08X}\t{distances:08X}",
-            graph_hash(&graph, capacity)
+            graph_hash(&list.graph, list.capacity)
         );
     }
     calls
@@ -360,31 +392,19 @@ fn run(l: u32) -> u32 {
 
 const LISTS: u32 = 120;
 
-// Every branch of a list beside those of an update, the capacities and the numbers of workers. Each must be reached five times.
-const BRANCHES: [&str; 70] = [
+/// A list's own branches beside the capacities and the numbers of workers.
+const BRANCHES: [&str; 43] = [
     "a worker without contacts",
-    "added: an id never given",
-    "added: the id freed last of several",
-    "added: the one id freed",
     "an order other than the list's",
     "colliders: 4",
     "colliders: 5",
     "colliders: 6",
-    "count change not written, a body unnamed",
-    "count change written, fewer",
-    "count change written, more",
-    "disjoint: end event",
-    "disjoint: no event, neither",
-    "disjoint: no event, not touching",
-    "disjoint: no event, touching without events",
-    "disjoint: no stop, no body named",
-    "disjoint: no stop, one body named",
-    "disjoint: not generating",
-    "disjoint: stop",
     "impulse written",
     "impulse written, NaN",
-    "no case: count change, not generating",
-    "no case: started generating, not touching",
+    "length unit 0",
+    "length unit NaN",
+    "length unit negative",
+    "length unit positive",
     "overfull: manifolds",
     "overfull: points",
     "pairs in a step: 1",
@@ -408,21 +428,6 @@ const BRANCHES: [&str; 70] = [
     "removals in a step: 0",
     "removals in a step: 1",
     "removals in a step: several",
-    "removed: the last pair itself",
-    "removed: the last pair takes the gap",
-    "started generating, touching",
-    "started generating, touching, count change left",
-    "started: both marks cleared",
-    "started: event",
-    "started: no event",
-    "started: not generating",
-    "started: start",
-    "stopped: event",
-    "stopped: no event",
-    "stopped: no stop, no body named",
-    "stopped: no stop, one body named",
-    "stopped: not generating",
-    "stopped: stop",
     "too many manifolds of an id not active",
     "too many points past the count",
     "visited after a removal",
@@ -434,18 +439,30 @@ const BRANCHES: [&str; 70] = [
     "world: kept",
 ];
 
+/// The lists do not reach these five times.
+const SELDOM: [&str; 5] = [
+    "abandoned: distance, equal",
+    "matched by anchors crossed, a feature unknown",
+    "visited: bit word 1",
+    "visited: bit word 2",
+    "visited: bit word 3",
+];
+
 fn main() {
     let lines: u32 = (0..LISTS).map(run).sum();
-    let mut branches = update_branches();
-    branches.extend(BRANCHES.iter().map(|b| b.to_string()));
+    let mut own: Vec<String> = BRANCHES.iter().map(|b| b.to_string()).collect();
     for n in 1..9 {
-        branches.push(format!("capacity: {n}"));
-        branches.push(format!("workers: {n}"));
+        own.push(format!("capacity: {n}"));
+        own.push(format!("workers: {n}"));
     }
-    branches.push("capacity: 64".to_string());
-    let count = all_reached(&branches);
-    let steps: u32 = (1..9).map(|n| count(&format!("workers: {n}"))).sum();
-    let total = branches.len();
+    own.push("capacity: 64".to_string());
+    let often = Branches::NAMES.iter().filter(|b| !SELDOM.contains(b));
+    let counts = Counts::taken();
+    counts.none_but(&own);
+    counts.at_least(5, own.iter().map(String::as_str));
+    counts.at_least(5, often.copied());
+    let steps: u32 = (1..9).map(|n| counts.of(&format!("workers: {n}"))).sum();
+    let total = own.len() + Branches::NAMES.len() - SELDOM.len();
     eprintln!("{LISTS} lists, {lines} lines, {steps} steps not refused, {total} branches");
     assert!(lines <= 3000);
 }

@@ -1,7 +1,7 @@
 //! From src/collision/contact_types/mod.rs and src/collision/contact_types/feature_id.rs.
 
 use super::math::*;
-use crate::reach;
+use crate::branches::reach;
 use std::ops::BitOr;
 
 #[derive(Clone, Copy, Debug, PartialEq, Eq)]

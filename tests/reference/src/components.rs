@@ -3,7 +3,7 @@
 //! coefficients combine by the specification's rule 7.
 
 use super::{ContactManifold, ContactPair, Entity, Rot, Vector};
-use crate::reach;
+use crate::branches::reach;
 
 #[derive(Clone, Copy, Debug)]
 pub struct ColliderAabb {

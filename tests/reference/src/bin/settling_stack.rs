@@ -1,13 +1,10 @@
-// The stack of crates/settling_stack from avian's own `NarrowPhase::update` and `ContactGraph`. It makes the expected output:
-// rustc --edition 2021 -O -o /tmp/settling_stack tests/settling_stack.rs && /tmp/settling_stack > crates/settling_stack/stdout
-// `update_contacts` and what it leans on are in tests/avian.rs, the graph and the step in tests/narrow_phase.rs: their heads say what
-// is carried over from where and what stands in for what. Here are the boxes, how they move, and the lines.
-#[allow(dead_code)]
-mod avian;
-#[allow(dead_code)]
-mod narrow_phase;
-use avian::*;
-use narrow_phase::*;
+//! The stack of crates/settling_stack: boxes that fall, shift and are lifted:
+//! cargo run --release --offline --bin settling_stack > ../../crates/settling_stack/stdout
+
+use reference::tables::calls::{Rows, Stepped, add, step};
+use reference::tables::hash::{Hash, bits, graph_hash};
+use reference::tables::reached::Counts;
+use reference::{Addition, ContactEdgeFlags, ContactGraph, ContactPair, Entity};
 
 const CAPACITY: usize = 64;
 
@@ -15,7 +12,7 @@ const FLOOR: usize = 0;
 
 const BOXES: usize = 8;
 
-// Coefficients and rules: friction, restitution.
+/// Coefficients and rules: friction, restitution.
 fn settings() -> Vec<u32> {
     let floats = [1.0 / 64.0, 1.0, 0.005, 0.05, 0.99].map(bits);
     let rest = [1, bits(0.5), 1, bits(0.1), 2];
@@ -23,6 +20,7 @@ fn settings() -> Vec<u32> {
 }
 
 // ---- Boxes: the floor is number 0. Each is a collider with a body of its number.
+
 #[derive(Clone, Copy)]
 struct Placed {
     position: [f32; 3],
@@ -42,20 +40,16 @@ fn stack() -> Stack {
     })
 }
 
-// Present for one in m of the numbers: mark, coefficient, rule.
+/// Present for one in m of the numbers: mark, coefficient, rule.
 fn coefficient_words(n: usize, m: usize) -> [u32; 3] {
     [(n % m == 1) as u32, bits(0.3), 1 + n as u32 % 5]
 }
 
-// The box is larger by 0.05 on each side. Box 2 is not there in one of a hundred steps, box 6 is a sensor for fifty in 150.
+/// The box is larger by 0.05 on each side. Box 2 is not there in one of a hundred steps, box 6 is a sensor for fifty in 150.
 fn collider_words(stack: &Stack, n: usize, step: u32) -> Vec<u32> {
     let p = stack[n].position;
     let half = |axis: usize| {
-        if n == FLOOR && axis != 1 {
-            5.05
-        } else {
-            0.55
-        }
+        if n == FLOOR && axis != 1 { 5.05 } else { 0.55 }
     };
     let present = !(n == 2 && step % 100 == 95);
     let sensor = n == 6 && step / 50 % 3 == 1;
@@ -70,7 +64,7 @@ fn collider_words(stack: &Stack, n: usize, step: u32) -> Vec<u32> {
     words
 }
 
-// Box 7 has no body for four steps in a hundred.
+/// Box 7 has no body for four steps in a hundred.
 fn body_words(stack: &Stack, n: usize, step: u32) -> Vec<u32> {
     let Placed {
         position,
@@ -91,7 +85,8 @@ fn body_words(stack: &Stack, n: usize, step: u32) -> Vec<u32> {
 }
 
 // ---- How they move.
-// Every 25 steps the boxes from 5, 4 or 3 on, every 40 steps 7 and 8.
+
+/// Every 25 steps the boxes from 5, 4 or 3 on, every 40 steps 7 and 8.
 fn lifted(n: usize, step: u32) -> bool {
     let above = |below: u32| n as u32 > below;
     match (step % 25, step % 40) {
@@ -115,10 +110,10 @@ fn move_along(placed: &mut Placed, axis: usize, to: f32) {
     placed.position[axis] = to;
 }
 
-// From the lowest up: each falls as far as the box below lets it, and shifts to and fro. Box 4 turns about y.
+/// From the lowest up: each falls as far as the box below lets it, and shifts to and fro. Box 4 turns about y.
 fn move_boxes(stack: &mut Stack, step: u32) {
     let turn = [0.0, 0.05, 0.1][(step / 32 % 3) as usize];
-    let cosine = [1.0, 0.99874922, 0.99498744][(step / 32 % 3) as usize];
+    let cosine = [1.0, 0.998_749_2, 0.994_987_4][(step / 32 % 3) as usize];
     stack[4].rotation = [0.0, turn, 0.0, cosine];
     for n in 1..=BOXES {
         let rest = stack[n - 1].position[1] + 1.0;
@@ -137,6 +132,7 @@ fn move_boxes(stack: &mut Stack, step: u32) {
 }
 
 // ---- What is added and proposed.
+
 fn top(placed: &Placed) -> f32 {
     placed.position[1] + 0.5
 }
@@ -145,7 +141,7 @@ fn bottom(placed: &Placed) -> f32 {
     placed.position[1] - 0.5
 }
 
-// All neighbours at the start, then those that are near. One that stands already is refused.
+/// All neighbours at the start, then those that are near. One that stands already is refused.
 fn add_near(graph: &mut ContactGraph, stack: &Stack, step: u32) {
     for n in 1..=BOXES {
         if step > 0 && bottom(&stack[n]) - top(&stack[n - 1]) >= 0.09 {
@@ -170,7 +166,7 @@ fn add_near(graph: &mut ContactGraph, stack: &Stack, step: u32) {
     }
 }
 
-// Corner k of a box's lower side.
+/// Corner k of a box's lower side.
 fn corner(k: u32) -> [f32; 3] {
     let side = |upper: u32| if upper == 0 { -0.5 } else { 0.5 };
     [side(k % 2), -0.5, side(k / 2)]
@@ -190,7 +186,7 @@ fn point_words(stack: &Stack, below: usize, above: usize, k: u32) -> Vec<u32> {
     words
 }
 
-// The hook says no in three of fifty steps. A manifold where the boxes are at most 0.02 apart.
+/// The hook says no in three of fifty steps. A manifold where the boxes are at most 0.02 apart.
 fn proposal_words(stack: &Stack, pair: &ContactPair, step: u32) -> Vec<u32> {
     let (below, above) = (pair.collider1.0 as usize, pair.collider2.0 as usize);
     let near = top(&stack[below]) - bottom(&stack[above]) > -0.02;
@@ -201,7 +197,7 @@ fn proposal_words(stack: &Stack, pair: &ContactPair, step: u32) -> Vec<u32> {
     words
 }
 
-// Three workers: the listed pairs in turn.
+/// Three workers: the listed pairs in turn.
 fn share_words(graph: &ContactGraph) -> Vec<u32> {
     let ids: Vec<u32> = graph.active_pairs.iter().map(|p| p.contact_id.0).collect();
     let own = |w: usize| -> Vec<u32> { ids.iter().skip(w).step_by(3).copied().collect() };
@@ -230,6 +226,7 @@ fn fill(rows: &mut Rows, graph: &ContactGraph, stack: &Stack, step: u32) {
 }
 
 // ---- Impulses, made up.
+
 fn impulse(step: u32, id: u32, point: usize, k: u32) -> f32 {
     let b = step as u64 * 7919 + id as u64 * 104729 + point as u64 * 1299709 + k as u64 * 15485863;
     f32::from_bits(0x3f000000 + (b % 4294967296 % 8388608) as u32)
@@ -250,6 +247,7 @@ fn write_impulses(graph: &mut ContactGraph, step: u32) {
 }
 
 // ---- Lines: what was said since the last one.
+
 struct Tally {
     events: usize,
     changes: usize,
@@ -281,7 +279,7 @@ fn print_line(graph: &ContactGraph, tally: &Tally, steps: u32) {
         .active_pairs
         .iter()
         .filter(|pair| {
-            let edge = graph.edges.edge_weight(pair.contact_id).unwrap();
+            let edge = graph.get_edge_by_id(pair.contact_id).unwrap();
             edge.flags.contains(ContactEdgeFlags::TOUCHING)
         })
         .count();
@@ -297,10 +295,11 @@ fn print_line(graph: &ContactGraph, tally: &Tally, steps: u32) {
     );
 }
 
-// What the stack is to reach.
-const BRANCHES: [&str; 26] = [
-    "abandoned: angle",
-    "abandoned: distance",
+/// What the stack is to reach.
+const BRANCHES: [&str; 27] = [
+    "abandoned: angle, equal",
+    "abandoned: distance, touching",
+    "abandoned: distance, not touching",
     "abandoned: no cache",
     "added: an id never given",
     "added: the id freed last of several",
@@ -350,11 +349,5 @@ fn main() {
             tally = Tally::NONE;
         }
     }
-    let reached = REACHED.take();
-    for (branch, count) in &reached {
-        eprintln!("{count:6} {branch}");
-    }
-    for branch in BRANCHES {
-        assert!(reached.contains_key(branch), "not reached: {branch}");
-    }
+    Counts::taken().at_least(1, BRANCHES);
 }
