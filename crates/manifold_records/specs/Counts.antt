@@ -32,9 +32,3 @@ surfaceWords m = m .count ∷ vec3Words (m .normal) ++ (floatWord (m .friction) 
 pub record LoadedManifold (xs : List ℕ) (at : ℕ) (r : ContactManifold) : Type 0 where
   pub manifold : manifoldOf r ≡ manifoldAt xs at
   pub count : r .count ≡ wordAt xs at
-
--- The promise of `load_manifolds`.
-pub record LoadedManifolds (xs : List ℕ) (at : ℕ) (r : ContactManifolds) : Type 0 where
-  pub manifolds : manifoldsOf r ≡ manifoldsAt xs at
-  pub count : r .count ≡ wordAt xs at
-  pub few : FewManifolds r

@@ -1,24 +1,20 @@
 -- Structs made of words, field by field: what each call gives, put together. Assumes nothing.
 use mathlib.Core.Path.{_≡_, ap, _∙_}
 use Prim.Native.Nat.{ℕ, _+_, _*_, _≤_, _<_}
-use native.Mathlib.Nat.{add-zero, add-assoc, eq-or-lt-of-le}
+use native.Mathlib.Nat.{add-zero, add-assoc}
 use native.Mathlib.Omega.{arith}
-use mathlib.Core.Logic.{inl, inr}
 use mathlib.Core.List.{List, map}
-use lib.ListN.{length, getD, take, set}
-use lib.Seq.{getD-set-same, getD-set-other}
+use lib.ListN.{getD, take}
 use lib.Ieee.{Float, binary32, ofBits}
 use Rattle.math.specs.declared.vec.Vec3.{Vec3}
 use Rattle.rows.specs.Rows.{part}
 use Rattle.rows.specs.Laws.{getD-part-lit}
-use Rattle.rows.specs.Slots.{upto}
 use Rattle.rules.specs.Records.{Point}
-use Rattle.contact_types.specs.Views.{pointOf, pointsOf, manifoldOf, manifoldsOf}
-use Rattle.contact_types.specs.declared.contact_manifold.ContactManifold.{ContactManifold}
+use Rattle.contact_types.specs.Views.{pointOf, pointsOf, manifoldOf}
 use Rattle.contact_types.specs.declared.contact_point.ContactPoint.{ContactPoint}
 use Rattle.words.specs.Words.{wordAt, floatAt, vec3At}
-use Rattle.manifold_records.specs.Counts.{FewPoints, LoadedManifold, LoadedManifolds}
-use Rattle.manifold_records.specs.Recorded.{pointAt, pointsAt, manifoldAt, manifoldsAt}
+use Rattle.manifold_records.specs.Counts.{LoadedManifold}
+use Rattle.manifold_records.specs.Recorded.{pointAt, pointsAt, manifoldAt}
 
 -- a vector, of its words
 abbrev pub vec3By : ℕ → ℕ → ℕ → Vec3
@@ -49,20 +45,3 @@ manifold-loaded xs at c p a f r b =
       manifold = λ i. record { points = (p ∙ ap (pointsAt xs (at + 9)) c) i; normal = a i; friction = f i; restitution = r i; tangentVelocity = b i };
       count = c;
     }
-
--- one more manifold in the array
-pub few-step : (list : List ContactManifold) (k : ℕ) (m : ContactManifold) → FewPoints list k → m .count ≤ 4 → k < length list → FewPoints (set list k m) (k + 1)
-few-step list k m f l h = record { each = go }
-  where
-    go : (j : ℕ) (d : ContactManifold) → j < k + 1 → getD (set list k m) j d .count ≤ 4
-    go j d i =
-        elim (eq-or-lt-of-le (let z : j ≤ k = omega arith in z)) [
-          | inl z ↦ rw (z, getD-set-same list k m d h) l
-          | inr z ↦ rw (getD-set-other list k j m d (omega arith)) (f .each j d z)
-        ]
-
-pub manifolds-loaded : (xs : List ℕ) (at : ℕ) {n : ℕ} {list : List ContactManifold} → n ≡ wordAt xs at → n ≤ 6
-    → map manifoldOf (take n list) ≡ map (λ j. manifoldAt xs (at + 1 + j * 81)) (upto n) → FewPoints list n → LoadedManifolds xs at (record { list = list; count = n })
-unfolding manifoldsAt manifoldsOf
-manifolds-loaded xs at c l e f =
-    record { manifolds = e ∙ ap (λ (n : ℕ). map (λ (j : ℕ). manifoldAt xs (at + 1 + j * 81)) (upto n)) c; count = c; few = record { manifolds = l; points = f } }

@@ -1,25 +1,23 @@
-// A manifold: the number of its points, its surface, and four points, 81 words. And a pair's list of up to six.
+// A manifold: the number of its points, its surface, and four points, 81 words.
 ghost use mathlib.Core.Path.{_≡_};
 ghost use mathlib.Core.List.{map};
 ghost use Prim.Native.Nat.{_+_, _≤_};
 ghost use lib.ListN.{length, take};
 ghost use Rattle.rows.specs.Rows.{put, each};
-ghost use Rattle.contact_types.specs.Views.{pointOf, manifoldOf, manifoldsOf};
+ghost use Rattle.contact_types.specs.Views.{pointOf, manifoldOf};
 ghost use Rattle.words.specs.Words.{wordAt};
 ghost use Rattle.manifold_records.specs.Recorded.{pointsAt};
-ghost use Rattle.manifold_records.specs.Written.{padded, pointWords, manifoldWords, manifoldsWords};
-ghost use Rattle.manifold_records.specs.Counts.{Counted, FewPoints, FewManifolds, surfaceWords, LoadedManifold, LoadedManifolds};
+ghost use Rattle.manifold_records.specs.Written.{padded, pointWords, manifoldWords};
+ghost use Rattle.manifold_records.specs.Counts.{surfaceWords, LoadedManifold};
 use crate::point::load_point;
 use crate::point::store_point;
 use crate::zeros::store_zeros;
 use contact_types::contact_manifold::ContactManifold;
-use contact_types::contact_manifold::ContactManifolds;
 use contact_types::contact_point::ContactPoint;
 use math::bits::bits_of;
 use math::vec::Vec3;
 use words::row::load_float;
 use words::row::load_word;
-use words::row::store_word;
 use words::row::store_words;
 use words::vec::load_vec3;
 
@@ -116,47 +114,4 @@ pub fn no_manifold() -> ContactManifold {
         restitution: 0.0,
         tangent_velocity: Vec3::ZERO,
     }
-}
-
-// The number of manifolds, and the manifolds after it.
-pub fn load_manifolds(g: &[u32], at: usize) -> ContactManifolds
-    requires { ⌜ (at + 487 ≤ length (now g)) × Counted (now g) at ⌝ }
-    ensures { λ r. ⌜ LoadedManifolds (now (g .entry)) at r ⌝ }
-{
-    let count = load_word(g, at);
-    let n = count as usize;
-    let none = no_manifold();
-    let mut list = [none; 6];
-    let mut k = 0;
-    while k < n {
-        let m = load_manifold(g, at + 1 + k * 81);
-        list[k] = m;
-        k += 1;
-    }
-    ContactManifolds { list, count }
-}
-
-// The first n of six manifolds, one after another.
-fn store_list(g: &mut [u32], at: usize, list: [ContactManifold; 6], n: usize)
-    requires { ⌜ (n ≤ 6) × (at + 486 ≤ length (now g)) × FewPoints list n ⌝ }
-    ensures { λ _. ⌜ now (g .exit) ≡ put (now (g .entry)) at (each manifoldWords (map manifoldOf (take n list))) ⌝ }
-{
-    let mut k = 0;
-    while k < n {
-        let m = list[k];
-        store_manifold(g, at + k * 81, m);
-        k += 1;
-    }
-}
-
-// The manifolds past the list's own are cleared.
-pub fn store_manifolds(g: &mut [u32], at: usize, ms: ContactManifolds)
-    requires { ⌜ (at + 487 ≤ length (now g)) × FewManifolds ms ⌝ }
-    ensures { λ _. ⌜ now (g .exit) ≡ put (now (g .entry)) at (manifoldsWords (manifoldsOf ms)) ⌝ }
-{
-    let list = ms.list;
-    let n = ms.count as usize;
-    store_word(g, at, ms.count);
-    store_list(g, at + 1, list, n);
-    store_zeros(g, at + 1 + n * 81, 486 - n * 81);
 }
