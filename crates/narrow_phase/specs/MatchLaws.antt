@@ -1,27 +1,16 @@
--- A turn of the loop through the new manifolds, and its end: each is matched against all the old ones. Assumes nothing.
+-- A turn of the loop through the new manifolds, and its end: each is changed in its place. Assumes nothing.
 use mathlib.Core.Path.{_≡_, refl, sym, ap, _∙_}
 use Prim.Native.Nat.{ℕ, zero, suc, _+_, _≤_, _<_}
 use native.Mathlib.Omega.{arith}
 use mathlib.Core.Logic.{_⊎_, inl, inr}
-use mathlib.Core.Bool.{true, false, not}
 use mathlib.Core.List.{List, [], _∷_, map}
-use borrow.Author.Tests.{le-leb, lt-leb, not-true, not-false}
-use lib.Dec.{leb}
 use lib.ListN.{length, getD, set, take, length-map, List·getD-map}
 use lib.Seq.{getD-set-same, getD-set-other}
-use Rattle.math.specs.Constants.{tenth}
-use Rattle.math.specs.Floats.{_⊗_}
 use Rattle.rows.specs.Arrays.{front, front-step}
-use Rattle.rules.specs.Inputs.{Settings}
 use Rattle.rules.specs.Records.{Manifold}
-use Rattle.rules.specs.Update.{matched}
-use Rattle.contact_records.specs.Counts.{FewPoints, FewManifolds}
-use Rattle.contact_types.specs.Matching.{Stored}
+use Rattle.contact_records.specs.Counts.{FewPoints}
 use Rattle.contact_types.specs.Views.{manifoldOf, manifoldsOf}
 use Rattle.contact_types.specs.declared.contact_manifold.ContactManifold.{ContactManifold}
-use Rattle.contact_types.specs.declared.contact_manifold.ContactManifolds.{ContactManifolds}
-use Rattle.narrow_phase.specs.ListLaws.{length-view}
-use Rattle.narrow_phase.specs.Views.{ManifoldsAre, MatchedManifolds}
 
 module _ (f : Manifold → Manifold) where
   map-set : (xs : List ContactManifold) (k : ℕ) (x : ContactManifold) → map manifoldOf (set xs k x) ≡ set (map manifoldOf xs) k (manifoldOf x)
@@ -65,38 +54,3 @@ few-kept list n k y f l h = record { each = go }
           | inl e ↦ rw (e, getD-set-same list k y d h) l
           | inr a ↦ rw (getD-set-other list k j y d a) (f .each j d i)
         ]
-
-pub stored : (m : ContactManifolds) → FewManifolds m → Stored m
-stored m f = record { count = f .manifolds; points = f .points .each }
-
--- ---- rule 11
-module _ (s : Settings) (olds news : ContactManifolds) (few : FewManifolds news) (room : news .count ≤ length (news .list)) where
-  news-length : length (manifoldsOf news) ≡ news .count
-  unfolding manifoldsOf
-  news-length = length-view manifoldOf (news .count) (news .list) room
-
-  news-count : leb (length (manifoldsOf news)) 4 ≡ leb (news .count) 4
-  news-count = ap (λ (n : ℕ). leb n 4) news-length
-
-  pub match-off : not (s .matchContacts) ≡ true → ManifoldsAre (matched s (manifoldsOf olds) (manifoldsOf news)) news
-  unfolding matched
-  match-off e = let o = not-true (s .matchContacts) e in record { manifolds = sym (rw o); few = few; count = rw o news-length }
-
-  pub match-many : not (s .matchContacts) ≡ false → 4 < news .count → ManifoldsAre (matched s (manifoldsOf olds) (manifoldsOf news)) news
-  unfolding matched
-  match-many e l =
-      let o = not-false (s .matchContacts) e in
-      let m = news-count ∙ lt-leb (news .count) 4 l in
-      record { manifolds = sym (rw (o, m)); few = few; count = rw (o, m) news-length }
-
-  pub match-done : not (s .matchContacts) ≡ false → news .count ≤ 4 → (r : ContactManifolds) → MatchedManifolds (tenth ⊗ s .lengthUnit) olds news r
-      → ManifoldsAre (matched s (manifoldsOf olds) (manifoldsOf news)) r
-  unfolding matched
-  match-done e l r m =
-      let o = not-false (s .matchContacts) e in
-      let t = news-count ∙ le-leb (news .count) 4 l in
-      record {
-        manifolds = m .manifolds ∙ sym (rw (o, t));
-        few = m .few;
-        count = rw (o, t) (simp length-map news-length ∙ sym (m .count));
-      }

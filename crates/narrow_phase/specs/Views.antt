@@ -3,10 +3,8 @@ use mathlib.Core.Path.{_≡_}
 use mathlib.Core.List.{List, map}
 use Prim.Native.Nat.{ℕ, _≤_}
 use lib.Dec.{eqb}
-use lib.Ieee.{Float}
 use lib.ListN.{length, take}
 use Rattle.rules.specs.Filtering.{isEmpty}
-use Rattle.rules.specs.Matching.{byNumber, matchAll}
 use Rattle.rules.specs.Records.{Point, Manifold}
 use Rattle.rules.specs.Surface as rules
 use Rattle.contact_types.specs.Views.{pointOf, manifoldOf, manifoldsOf}
@@ -41,9 +39,3 @@ pub record ManifoldsAre (ms : List Manifold) (r : ContactManifolds) : Type 0 whe
   pub manifolds : manifoldsOf r ≡ ms
   pub few : FewManifolds r
   pub count : length ms ≡ r .count
-
--- The promise of `match_list`: each manifold matched against all the old ones.
-pub record MatchedManifolds (threshold : Float) (olds news r : ContactManifolds) : Type 0 where
-  pub manifolds : manifoldsOf r ≡ map (matchAll byNumber threshold (manifoldsOf olds)) (manifoldsOf news)
-  pub few : FewManifolds r
-  pub count : r .count ≡ news .count

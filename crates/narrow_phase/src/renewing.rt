@@ -1,21 +1,14 @@
-// What a full update makes of a pair besides its new manifolds: cache, flags, status bit, warm starting. Rules 6, 11 and 12.
+// What a full update makes of a pair besides its manifolds: cache, flags, status bit. Rules 6 and 12.
 ghost use mathlib.Core.Path.{_≡_};
 ghost use lib.IntN.{pos, _-ℤ_};
 ghost use Prim.Native.Nat.{_≤_};
-ghost use Rattle.rules.specs.Update.{cacheOf, enabled, matched, renewedFlags, statusBit};
-ghost use Rattle.collider.specs.Views.{plainSettings, plainCollider, plainSide};
-ghost use Rattle.contact_types.specs.Views.{manifoldsOf};
-ghost use Rattle.contact_records.specs.Counts.{FewManifolds};
+ghost use Rattle.rules.specs.Update.{cacheOf, enabled, renewedFlags, statusBit};
+ghost use Rattle.collider.specs.Views.{plainCollider, plainSide};
 ghost use Rattle.contact_records.specs.StateViews.{flagsOf, cachedOf};
-ghost use Rattle.narrow_phase.specs.Views.{ManifoldsAre, MatchedManifolds};
 use collider::collider_record::ColliderRecord;
-use collider::settings::Settings;
 use collider::side::Side;
 use contact_records::state::ContactPairFlags;
-use contact_types::contact_manifold::ContactManifolds;
 use contact_types::contact_manifold::ContactRecyclingCache;
-use contact_types::matching::match_all;
-use math::constants::TENTH;
 
 // The poses that the next recycle test compares with.
 pub fn cache_of(a: Side, b: Side) -> ContactRecyclingCache
@@ -81,40 +74,4 @@ pub fn status_bit(f: ContactPairFlags, enabled: bool, touching: bool, change: i3
 {
     (enabled & !f.generate_constraints)
         | ((touching & !f.touching) | ((!touching & f.touching) | (change != 0)))
-}
-
-// The first n of six manifolds, each against every old one in turn.
-fn match_list(news: ContactManifolds, olds: ContactManifolds, threshold: f32) -> ContactManifolds
-    requires { ⌜ FewManifolds news × FewManifolds olds ⌝ }
-    ensures { λ r. ⌜ MatchedManifolds threshold olds news r ⌝ }
-{
-    let count = news.count;
-    let n = count as usize;
-    let mut list = news.list;
-    let mut k = 0;
-    while k < n {
-        let m = list[k];
-        let matched = match_all(m, olds, threshold);
-        list[k] = matched;
-        k += 1;
-    }
-    ContactManifolds { list, count }
-}
-
-// With matching on and at most four new manifolds.
-pub fn match_manifolds(
-    s: Settings,
-    olds: ContactManifolds,
-    news: ContactManifolds,
-) -> ContactManifolds
-    requires { ⌜ FewManifolds news × FewManifolds olds ⌝ }
-    ensures { λ r. ⌜ ManifoldsAre (matched (plainSettings s) (manifoldsOf olds) (manifoldsOf news)) r ⌝ }
-{
-    if !s.match_contacts {
-        return news;
-    }
-    if 4 < news.count {
-        return news;
-    }
-    match_list(news, olds, TENTH * s.length_unit)
 }
