@@ -146,6 +146,58 @@ fn kept_points(
     }
 }
 
+// Four points or fewer: those that stay are kept.
+fn few_points(
+    words: &[u32],
+    at: usize,
+    n: usize,
+    normal: Vec3,
+    step_time: f32,
+    a: Side,
+    b: Side,
+    f: Surface,
+) -> ManifoldPoints
+    requires { ⌜ (n ≤ 4) × (at + 384 ≤ length (now words)) ⌝ }
+    ensures { λ r. ⌜ PrunedTo (pruned normal (staying «step_time» (f .distance) (map (movedPoint (plainSide a) (plainSide b) (f .margins) normal) (proposedPointsAt (now (words .entry)) at n)))) r ⌝ }
+{
+    let margins = f.margins;
+    let distance = f.distance;
+    let none = ContactPoint::new(Vec3::ZERO, Vec3::ZERO, Vec3::ZERO, 0.0);
+    let mut points = [none; 4];
+    let mut count: usize = 0;
+    let mut k = 0;
+    while k < n {
+        let p = moved_point_at(words, at + k * POINT_SIZE, a, b, margins, normal);
+        points[count] = p;
+        count += one_if(stays(step_time, distance, p));
+        k += 1;
+    }
+    ManifoldPoints {
+        points,
+        count: count as u32,
+    }
+}
+
+// The points left of those proposed. An array of 32 is made only where there are more than four.
+fn points_left(
+    words: &[u32],
+    at: usize,
+    n: usize,
+    normal: Vec3,
+    step_time: f32,
+    a: Side,
+    b: Side,
+    f: Surface,
+) -> ManifoldPoints
+    requires { ⌜ (n ≤ 32) × (at + 384 ≤ length (now words)) ⌝ }
+    ensures { λ r. ⌜ PrunedTo (pruned normal (staying «step_time» (f .distance) (map (movedPoint (plainSide a) (plainSide b) (f .margins) normal) (proposedPointsAt (now (words .entry)) at n)))) r ⌝ }
+{
+    if n <= 4 {
+        return few_points(words, at, n, normal, step_time, a, b, f);
+    }
+    kept_points(words, at, n, normal, step_time, a, b, f)
+}
+
 // The proposed manifold at a place, filtered and pruned.
 fn filtered_manifold(
     words: &[u32],
@@ -160,7 +212,7 @@ fn filtered_manifold(
 {
     let n = load_word(words, at) as usize;
     let normal = load_vec3(words, at + NORMAL_PLACE);
-    let few = kept_points(words, at + POINTS_PLACE, n, normal, step_time, a, b, f);
+    let few = points_left(words, at + POINTS_PLACE, n, normal, step_time, a, b, f);
     let points = few.points;
     ContactManifold {
         points,
@@ -172,27 +224,28 @@ fn filtered_manifold(
     }
 }
 
-// Those that have points left, in the order proposed.
+// Those that have points left, in the order proposed. They are stored in the struct that is returned: a list of its own would be copied.
 fn new_manifolds(proposal: &[u32], step_time: f32, a: Side, b: Side, f: Surface) -> ContactManifolds
     requires { ⌜ (length (now proposal) ≡ proposalSize) × Proposed (now proposal) 0 ⌝ }
     ensures { λ r. ⌜ ManifoldsAre (nonEmpty (map (filtered «step_time» (plainSide a) (plainSide b) (plainSurface f)) (proposalAt (now (proposal .entry)) 0))) r ⌝ }
 {
     let n = load_word(proposal, COUNT_PLACE) as usize;
     let none = no_manifold();
-    let mut list = [none; 6];
+    let mut ms = ContactManifolds {
+        list: [none; 6],
+        count: 0,
+    };
     let mut count: usize = 0;
     let mut k = 0;
     while k < n {
         let at = MANIFOLDS_PLACE + k * MANIFOLD_SIZE;
         let m = filtered_manifold(proposal, at, step_time, a, b, f);
-        list[count] = m;
+        ms.list[count] = m;
         count += one_if(m.count != 0);
         k += 1;
     }
-    ContactManifolds {
-        list,
-        count: count as u32,
-    }
+    ms.count = count as u32;
+    ms
 }
 
 // A marked pair whose hook says no loses all of them.

@@ -20,12 +20,12 @@ use Rattle.narrow_phase.proofs.manifold.new_manifolds.Statement.{statem
 use Rattle.narrow_phase.proofs.manifold.new_manifolds.Tie as tie
 
 abbrev Inv-loop : tie.InvT-loop
-Inv-loop proposal step-time a b f n list₀ count₀ k₀ list count k =
-    (k ≤ n) × (count ≤ k) × (length list ≡ 6) × FewPoints list count
-    × (map manifoldOf (take count list) ≡ nonEmpty (map (filtered step-time (plainSide a) (plainSide b) (plainSurface f)) (map (λ j. proposedManifoldAt proposal (2 + j * 388)) (upto k))))
+Inv-loop proposal step-time a b f n ms₀ count₀ k₀ ms count k =
+    (k ≤ n) × (count ≤ k) × (length (ms .list) ≡ 6) × FewPoints (ms .list) count
+    × (map manifoldOf (take count (ms .list)) ≡ nonEmpty (map (filtered step-time (plainSide a) (plainSide b) (plainSurface f)) (map (λ j. proposedManifoldAt proposal (2 + j * 388)) (upto k))))
 
 abbrev μ-loop : tie.MeasureT-loop
-μ-loop proposal step-time a b f n list₀ count₀ k₀ list count k = n - k
+μ-loop proposal step-time a b f n ms₀ count₀ k₀ ms count k = n - k
 
 loop-holds : tie.Need-loop-holds Inv-loop μ-loop
 unfolding upto nonEmpty
@@ -38,8 +38,8 @@ filtered-manifold-requires c κs =
     let m = c .before .before .before .before .before .pre .1 .manifolds in
     (omega (arith, w .inv .0, c .loop-test .taken, c .before .before .before .before .before .pre .0), c .before .before .before .before .before .pre .1 .points (w .k) (omega (arith, c .loop-test .taken)))
 
-array-set-from-list : tie.Need-array-set-from-list Inv-loop μ-loop
-array-set-from-list c =
+element-set-from-m : tie.Need-element-set-from-m Inv-loop μ-loop
+element-set-from-m c =
     let w = c .before .before .loop in
     omega (arith, w .inv .1, w .inv .2, c .before .loop-test .taken, c .before .before .before .before .load-word .ensures, c .before .before .before .before .before .before .pre .1 .manifolds)
 
@@ -53,13 +53,13 @@ loop-again : tie.Need-loop-again Inv-loop μ-loop
 loop-again c =
     let w = c .before .before .before .before .loop in
     let m = c .before .before .filtered-manifold in
-    let room : w .count < length (w .list) = omega (arith, w .inv .1, w .inv .2, c .before .before .before .loop-test .taken, c .before .before .before .before .before .before .load-word .ensures, c .before .before .before .before .before .before .before .before .pre .1 .manifolds) in
+    let room : w .count < length (w .ms .list) = omega (arith, w .inv .1, w .inv .2, c .before .before .before .loop-test .taken, c .before .before .before .before .before .before .load-word .ensures, c .before .before .before .before .before .before .before .before .pre .1 .manifolds) in
     let o = one-most (not (eqb (c .before .before .filtered-manifold .result .count) 0)) (c .one-if .ensures) in (
       search needs,
       omega arith,
       simp length-set (w .inv .2),
       few-step _ (w .count) _ o (w .inv .3) (m .ensures .few) room,
-      keep-step _ _ 2 (w .k) (w .count) (w .list) (m .result) (w .inv .4) (m .ensures) refl (c .one-if .ensures) room,
+      keep-step _ _ 2 (w .k) (w .count) (w .ms .list) (m .result) (w .inv .4) (m .ensures) refl (c .one-if .ensures) room,
     )
 
 returns : tie.Need-returns Inv-loop μ-loop
@@ -71,5 +71,5 @@ returns c =
 pub new-manifolds-spec : {M : Type 1} → statement M
 new-manifolds-spec =
     tie.close
-    (tie.spec Inv-loop μ-loop (search needs) (search needs) (search needs) loop-holds (search needs) (search needs) filtered-manifold-requires (search needs) array-set-from-list (search needs)
+    (tie.spec Inv-loop μ-loop (search needs) (search needs) (search needs) loop-holds (search needs) (search needs) filtered-manifold-requires (search needs) element-set-from-m (search needs)
     add-count (search needs) (search needs) loop-again (search needs) returns)
