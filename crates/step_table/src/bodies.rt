@@ -1,5 +1,6 @@
 // Bodies that move.
 use crate::choices::choice;
+use crate::given::BODIES;
 use case_draws::draws::draw;
 use case_draws::draws::low;
 use case_draws::draws::slot;
@@ -59,22 +60,22 @@ fn moved_word(owner: u32, i: u32, wild: bool, w: u32) -> u32 {
     }
 }
 
-fn move_body(bodies: &mut [u32], n: u32, wild: bool, call: u32) {
+fn move_body(given: &mut [u32], n: u32, wild: bool, call: u32) {
     let owner = draw(call, slot(20, n));
     let mut i = 2;
     while i < 9 {
-        let at = low(26 * n as u64 + i as u64) as u32;
-        put(bodies, at, moved_word(owner, i, wild, word(bodies, at)));
+        let at = low(BODIES + 26 * n as u64 + i as u64) as u32;
+        put(given, at, moved_word(owner, i, wild, word(given, at)));
         i += 1;
     }
 }
 
 // Where floats are awkward, one of them moves far.
-pub fn move_bodies(bodies: &mut [u32], count: u32, one: u32, call: u32) {
+pub fn move_bodies(given: &mut [u32], count: u32, one: u32, call: u32) {
     let far = style(call) == 2;
     let mut n = 0;
     while n < count {
-        move_body(bodies, n, far & (n == one), call);
+        move_body(given, n, far & (n == one), call);
         n += 1;
     }
 }

@@ -3,6 +3,7 @@ use crate::choices::Kind;
 use crate::choices::call_count;
 use crate::choices::call_key;
 use crate::choices::kind_of;
+use crate::given::GIVEN_LENGTH;
 use crate::graph::hash_of;
 use crate::impulses::write_impulses;
 use crate::proposal_draws::fill_proposals;
@@ -31,10 +32,32 @@ pub struct List {
     pub colliders: u32,
 }
 
-// What the last step that was made has written.
-pub struct Held {
+// How many events and changes the last step that was made has written.
+pub struct Told {
     pub events: u32,
     pub changes: u32,
+}
+
+// What the steps have written beside the graph.
+pub struct Held {
+    pub bits: [u64; 8],
+    pub events: [u32; 512],
+    pub changes: [u32; 320],
+    pub distances: [u32; 64],
+    pub told: Told,
+}
+
+fn nothing_held() -> Held {
+    Held {
+        bits: [0u64; 8],
+        events: [0u32; 512],
+        changes: [0u32; 320],
+        distances: [0u32; 64],
+        told: Told {
+            events: 0,
+            changes: 0,
+        },
+    }
 }
 
 fn print_refused(number: u32) {
@@ -59,166 +82,108 @@ fn print_impulses(graph: &mut [u32], call: u32) {
     print_name(b"\tI\t-");
 }
 
-fn print_report(report: StepReport) -> Held {
+fn print_report(report: StepReport) -> Told {
     print_count(report.events);
     print_count(report.changes);
     print_count(report.recycled);
-    Held {
+    Told {
         events: report.events,
         changes: report.changes,
     }
 }
 
-fn print_stepped(answer: StepAnswer, held: Held) -> Held {
+fn print_stepped(answer: StepAnswer, told: Told) -> Told {
     print_name(b"\tS");
     match answer {
         StepAnswer::Done(report) => print_report(report),
         StepAnswer::Refused(r) => {
             print_refused(r.number());
-            held
+            told
         }
     }
 }
 
-// What the step is lent to read.
-fn draw_given(
-    settings: &mut [u32],
-    colliders: &mut [u32],
-    bodies: &mut [u32],
-    proposals: &mut [u32],
-    shares: &mut [u32],
-    graph: &[u32],
-    count: u32,
-    call: u32,
-) {
-    change_rows(settings, colliders, bodies, count, call);
-    fill_proposals(proposals, graph, call);
-    fill_shares(shares, graph, call);
+// What the step is lent to read. The shares stand first.
+fn draw_given(given: &mut [u32], graph: &[u32], colliders: u32, call: u32) {
+    change_rows(given, colliders, call);
+    fill_proposals(given, graph, call);
+    fill_shares(given, graph, call);
 }
 
-fn print_made(
-    settings: &[u32],
-    colliders: &[u32],
-    bodies: &[u32],
-    proposals: &[u32],
-    shares: &[u32],
-    graph: &mut [u32],
-    bits: &mut [u64],
-    events: &mut [u32],
-    changes: &mut [u32],
-    distances: &mut [u32],
-    held: Held,
-) -> Held {
+// Of each row, what the capacity asks for is lent; those that are read stand in one, at the places that given.rt has.
+fn print_made(given: &[u32], graph: &mut [u32], capacity: u32, held: Held) -> Held {
+    let mut bits = held.bits;
+    let mut events = held.events;
+    let mut changes = held.changes;
+    let mut distances = held.distances;
+    let n = capacity as usize;
+    if 64 < n {
+        return held;
+    }
+    if given.len() < GIVEN_LENGTH {
+        return held;
+    }
+    let shared = 9 + n;
+    let proposed = 9299 + 2330 * n;
+    let told = 8 * n;
+    let changed = 5 * n;
     let answer = step(
-        settings,
-        colliders,
-        bodies,
-        proposals,
-        shares,
+        &given[73..83],
+        &given[83..5971],
+        &given[5971..9299],
+        &given[9299..proposed],
+        &given[..shared],
         graph,
+        &mut bits,
+        &mut events[..told],
+        &mut changes[..changed],
+        &mut distances[..n],
+    );
+    let told = print_stepped(answer, held.told);
+    Held {
         bits,
         events,
         changes,
         distances,
-    );
-    print_stepped(answer, held)
+        told,
+    }
 }
 
-fn print_step(
-    settings: &mut [u32],
-    colliders: &mut [u32],
-    bodies: &mut [u32],
-    proposals: &mut [u32],
-    shares: &mut [u32],
-    graph: &mut [u32],
-    bits: &mut [u64],
-    events: &mut [u32],
-    changes: &mut [u32],
-    distances: &mut [u32],
-    count: u32,
-    call: u32,
-    held: Held,
-) -> Held {
-    draw_given(
-        settings,
-        colliders,
-        bodies,
-        proposals,
-        shares,
-        graph,
-        count,
-        call,
-    );
-    print_made(
-        settings,
-        colliders,
-        bodies,
-        proposals,
-        shares,
-        graph,
-        bits,
-        events,
-        changes,
-        distances,
-        held,
-    )
+fn print_step(given: &mut [u32], graph: &mut [u32], list: List, call: u32, held: Held) -> Held {
+    draw_given(given, graph, list.colliders, call);
+    print_made(given, graph, list.capacity, held)
 }
 
-fn print_hashes(
-    graph: &[u32],
-    events: &[u32],
-    changes: &[u32],
-    distances: &[u32],
-    capacity: u32,
-    held: Held,
-) {
+fn print_hashes(graph: &[u32], capacity: u32, held: Held) {
+    let events = held.events;
+    let changes = held.changes;
+    let distances = held.distances;
+    let told = held.told;
     print_word(hash_of(graph));
-    print_word(add_words(events, 0, low(8 * held.events as u64) as u32, START));
-    print_word(add_words(changes, 0, low(5 * held.changes as u64) as u32, START));
-    print_word(add_words(distances, 0, capacity, START));
+    print_word(add_words(&events, 0, low(8 * told.events as u64) as u32, START));
+    print_word(add_words(&changes, 0, low(5 * told.changes as u64) as u32, START));
+    print_word(add_words(&distances, 0, capacity, START));
     print_end();
 }
 
 fn print_call(
-    settings: &mut [u32],
-    colliders: &mut [u32],
-    bodies: &mut [u32],
-    proposals: &mut [u32],
-    shares: &mut [u32],
+    given: &mut [u32],
     graph: &mut [u32],
-    bits: &mut [u64],
-    events: &mut [u32],
-    changes: &mut [u32],
-    distances: &mut [u32],
-    count: u32,
+    list: List,
     call: u32,
     kind: Kind,
     held: Held,
 ) -> Held {
     match kind {
         Kind::Addition => {
-            print_add(graph, count, call);
+            print_add(graph, list.colliders, call);
             held
         }
         Kind::Impulses => {
             print_impulses(graph, call);
             held
         }
-        Kind::Step => print_step(
-            settings,
-            colliders,
-            bodies,
-            proposals,
-            shares,
-            graph,
-            bits,
-            events,
-            changes,
-            distances,
-            count,
-            call,
-            held,
-        ),
+        Kind::Step => print_step(given, graph, list, call, held),
     }
 }
 
@@ -228,78 +193,21 @@ fn print_numbers(l: u32, n: u32) {
     print_count(n);
 }
 
-fn print_line(
-    settings: &mut [u32],
-    colliders: &mut [u32],
-    bodies: &mut [u32],
-    proposals: &mut [u32],
-    shares: &mut [u32],
-    graph: &mut [u32],
-    bits: &mut [u64],
-    events: &mut [u32],
-    changes: &mut [u32],
-    distances: &mut [u32],
-    list: List,
-    n: u32,
-    held: Held,
-) -> Held {
+fn print_line(given: &mut [u32], graph: &mut [u32], list: List, n: u32, held: Held) -> Held {
     let call = call_key(list.key, n);
     print_numbers(list.number, n);
-    let then = print_call(
-        settings,
-        colliders,
-        bodies,
-        proposals,
-        shares,
-        graph,
-        bits,
-        events,
-        changes,
-        distances,
-        list.colliders,
-        call,
-        kind_of(call, n, list.capacity),
-        held,
-    );
-    print_hashes(graph, events, changes, distances, list.capacity, then);
+    let kind = kind_of(call, n, list.capacity);
+    let then = print_call(given, graph, list, call, kind, held);
+    print_hashes(graph, list.capacity, then);
     then
 }
 
-pub fn print_calls(
-    settings: &mut [u32],
-    colliders: &mut [u32],
-    bodies: &mut [u32],
-    proposals: &mut [u32],
-    shares: &mut [u32],
-    graph: &mut [u32],
-    bits: &mut [u64],
-    events: &mut [u32],
-    changes: &mut [u32],
-    distances: &mut [u32],
-    list: List,
-) {
+pub fn print_calls(given: &mut [u32], graph: &mut [u32], list: List) {
     let count = call_count(list.key);
-    let mut held = Held {
-        events: 0,
-        changes: 0,
-    };
+    let mut held = nothing_held();
     let mut n = 0;
     while n < count {
-        held = print_line(
-            settings,
-            colliders,
-            bodies,
-            proposals,
-            shares,
-            graph,
-            bits,
-            events,
-            changes,
-            distances,
-            list,
-            n,
-            held,
-        );
+        held = print_line(given, graph, list, n, held);
         n += 1;
     }
 }

@@ -3,6 +3,7 @@
 mod bodies;
 mod calls;
 mod choices;
+mod given;
 mod graph;
 mod impulses;
 mod lists;

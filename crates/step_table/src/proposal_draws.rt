@@ -2,6 +2,7 @@
 use crate::choices::below;
 use crate::choices::choice;
 use crate::choices::over;
+use crate::given::PROPOSALS;
 use crate::graph::listed;
 use crate::graph::listed_id;
 use crate::graph::stray;
@@ -14,16 +15,16 @@ use case_draws::places::word;
 
 // The i-th word of an id's proposal.
 fn place(id: u32, i: u32) -> u32 {
-    low(2330 * id as u64 + i as u64) as u32
+    low(PROPOSALS + 2330 * id as u64 + i as u64) as u32
 }
 
-fn fill_listed(proposals: &mut [u32], graph: &[u32], call: u32) {
+fn fill_listed(given: &mut [u32], graph: &[u32], call: u32) {
     let count = listed(graph);
     let mut q = 0;
     while q < count {
         let id = listed_id(graph, q);
         fill(
-            proposals,
+            given,
             place(id, 0),
             2330,
             Drawn::Proposal,
@@ -34,7 +35,7 @@ fn fill_listed(proposals: &mut [u32], graph: &[u32], call: u32) {
 }
 
 // The manifolds of a listed pair, the points of one of its manifolds, the manifolds of an id that is not listed.
-fn overfill(proposals: &mut [u32], graph: &[u32], call: u32) {
+fn overfill(given: &mut [u32], graph: &[u32], call: u32) {
     let d = choice(call, 64);
     let e = choice(call, 65);
     let count = listed(graph);
@@ -42,23 +43,19 @@ fn overfill(proposals: &mut [u32], graph: &[u32], call: u32) {
     let other = stray(graph, call);
     match d % 24 {
         0 => if 0 < count {
-            put(proposals, place(id, 1), over(6, d / 24));
+            put(given, place(id, 1), over(6, d / 24));
         },
         1 => if 0 < count {
-            put(
-                proposals,
-                place(id, 2 + 388 * (e / 64 % 6)),
-                over(32, d / 24),
-            );
+            put(given, place(id, 2 + 388 * (e / 64 % 6)), over(32, d / 24));
         },
         2 => if other < word(graph, 0) {
-            put(proposals, place(other, 1), over(6, d / 24));
+            put(given, place(other, 1), over(6, d / 24));
         },
         _ => {}
     }
 }
 
-pub fn fill_proposals(proposals: &mut [u32], graph: &[u32], call: u32) {
-    fill_listed(proposals, graph, call);
-    overfill(proposals, graph, call);
+pub fn fill_proposals(given: &mut [u32], graph: &[u32], call: u32) {
+    fill_listed(given, graph, call);
+    overfill(given, graph, call);
 }

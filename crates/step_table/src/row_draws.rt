@@ -2,84 +2,81 @@
 use crate::bodies::move_bodies;
 use crate::choices::below;
 use crate::choices::choice;
+use crate::given::BODIES;
+use crate::given::COLLIDERS;
+use crate::given::SETTINGS;
 use case_draws::draws::low;
 use case_draws::fill::Drawn;
 use case_draws::fill::fill;
 
-fn fill_collider(colliders: &mut [u32], n: u32, key: u32) {
+fn fill_collider(given: &mut [u32], n: u32, key: u32) {
     fill(
-        colliders,
-        low(23 * n as u64) as u32,
+        given,
+        low(COLLIDERS + 23 * n as u64) as u32,
         23,
         Drawn::Collider(n),
         key,
     );
 }
 
-fn fill_body(bodies: &mut [u32], n: u32, key: u32) {
-    fill(bodies, low(26 * n as u64) as u32, 26, Drawn::Body(n), key);
+fn fill_body(given: &mut [u32], n: u32, key: u32) {
+    fill(
+        given,
+        low(BODIES + 26 * n as u64) as u32,
+        26,
+        Drawn::Body(n),
+        key,
+    );
 }
 
-fn fill_colliders(colliders: &mut [u32], count: u32, key: u32) {
+fn fill_colliders(given: &mut [u32], count: u32, key: u32) {
     let mut n = 0;
     while n < count {
-        fill_collider(colliders, n, key);
+        fill_collider(given, n, key);
         n += 1;
     }
 }
 
-fn fill_bodies(bodies: &mut [u32], count: u32, key: u32) {
+fn fill_bodies(given: &mut [u32], count: u32, key: u32) {
     let mut n = 0;
     while n < count {
-        fill_body(bodies, n, key);
+        fill_body(given, n, key);
         n += 1;
     }
 }
 
-pub fn fill_rows(
-    settings: &mut [u32],
-    colliders: &mut [u32],
-    bodies: &mut [u32],
-    count: u32,
-    key: u32,
-) {
-    fill(settings, 0, 10, Drawn::Settings, key);
-    fill_colliders(colliders, count, key);
-    fill_bodies(bodies, count, key);
+pub fn fill_rows(given: &mut [u32], count: u32, key: u32) {
+    fill(given, SETTINGS, 10, Drawn::Settings, key);
+    fill_colliders(given, count, key);
+    fill_bodies(given, count, key);
 }
 
 // All anew, one, one collider, one body, all bodies moved, or nothing.
-fn change_things(colliders: &mut [u32], bodies: &mut [u32], count: u32, call: u32) {
+fn change_things(given: &mut [u32], count: u32, call: u32) {
     let one = below(choice(call, 63), count);
     match choice(call, 62) % 16 {
         0 => {
-            fill_colliders(colliders, count, call);
-            fill_bodies(bodies, count, call);
+            fill_colliders(given, count, call);
+            fill_bodies(given, count, call);
         }
         1..=3 => {
-            fill_collider(colliders, one, call);
-            fill_body(bodies, one, call);
+            fill_collider(given, one, call);
+            fill_body(given, one, call);
         }
-        4 | 5 => fill_collider(colliders, one, call),
-        6 => fill_body(bodies, one, call),
-        7..=12 => move_bodies(bodies, count, one, call),
+        4 | 5 => fill_collider(given, one, call),
+        6 => fill_body(given, one, call),
+        7..=12 => move_bodies(given, count, one, call),
         _ => {}
     }
 }
 
-fn change_settings(settings: &mut [u32], call: u32) {
+fn change_settings(given: &mut [u32], call: u32) {
     if choice(call, 61) % 8 == 0 {
-        fill(settings, 0, 10, Drawn::Settings, call);
+        fill(given, SETTINGS, 10, Drawn::Settings, call);
     }
 }
 
-pub fn change_rows(
-    settings: &mut [u32],
-    colliders: &mut [u32],
-    bodies: &mut [u32],
-    count: u32,
-    call: u32,
-) {
-    change_settings(settings, call);
-    change_things(colliders, bodies, count, call);
+pub fn change_rows(given: &mut [u32], count: u32, call: u32) {
+    change_settings(given, call);
+    change_things(given, count, call);
 }

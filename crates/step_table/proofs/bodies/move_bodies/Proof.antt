@@ -7,10 +7,10 @@ use Rattle.step_table.proofs.bodies.move_bodies.Statement.{statement}
 use Rattle.step_table.proofs.bodies.move_bodies.Tie as tie
 
 abbrev Inv-loop : tie.InvT-loop
-Inv-loop bodies₀ count one call far n₀ bodies n = (n ≤ count) × (length bodies ≡ length bodies₀)
+Inv-loop given₀ count one call far n₀ given n = (n ≤ count) × (length given ≡ length given₀)
 
 abbrev μ-loop : tie.MeasureT-loop
-μ-loop bodies₀ count one call far n₀ bodies n = count - n
+μ-loop given₀ count one call far n₀ given n = count - n
 
 pub move-bodies-spec : {M : Type 1} → statement M
 move-bodies-spec =

@@ -7,13 +7,13 @@ use Rattle.step_table.proofs.bodies.move_body.Statement.{statement}
 use Rattle.step_table.proofs.bodies.move_body.Tie as tie
 
 abbrev Inv-loop : tie.InvT-loop
-Inv-loop bodies₀ n wild call owner i₀ bodies i = (i ≤ 9) × (length bodies ≡ length bodies₀)
+Inv-loop given₀ n wild call owner i₀ given i = (i ≤ 9) × (length given ≡ length given₀)
 
 abbrev μ-loop : tie.MeasureT-loop
-μ-loop bodies₀ n wild call owner i₀ bodies i = 9 - i
+μ-loop given₀ n wild call owner i₀ given i = 9 - i
 
 pub move-body-spec : {M : Type 1} → statement M
 move-body-spec =
     tie.close
     (tie.spec Inv-loop μ-loop (search needs) (search needs) (search needs) (search needs) (search needs) (search needs) (search needs) (search needs)
-    (search needs) (search needs) (search needs) (search needs) (search needs) (search needs) (search needs) (search needs))
+    (search needs) (search needs) (search needs) (search needs) (search needs) (search needs) (search needs) (search needs) (search needs))

@@ -7,10 +7,10 @@ use Rattle.step_table.proofs.proposal_draws.fill_listed.Statement.{stat
 use Rattle.step_table.proofs.proposal_draws.fill_listed.Tie as tie
 
 abbrev Inv-loop : tie.InvT-loop
-Inv-loop proposals₀ graph call count q₀ proposals q = (q ≤ count) × (length proposals ≡ length proposals₀)
+Inv-loop given₀ graph call count q₀ given q = (q ≤ count) × (length given ≡ length given₀)
 
 abbrev μ-loop : tie.MeasureT-loop
-μ-loop proposals₀ graph call count q₀ proposals q = count - q
+μ-loop given₀ graph call count q₀ given q = count - q
 
 pub fill-listed-spec : {M : Type 1} → statement M
 fill-listed-spec =

@@ -7,10 +7,10 @@ use Rattle.step_table.proofs.row_draws.fill_colliders.Statement.{statem
 use Rattle.step_table.proofs.row_draws.fill_colliders.Tie as tie
 
 abbrev Inv-loop : tie.InvT-loop
-Inv-loop colliders₀ count key n₀ colliders n = (n ≤ count) × (length colliders ≡ length colliders₀)
+Inv-loop given₀ count key n₀ given n = (n ≤ count) × (length given ≡ length given₀)
 
 abbrev μ-loop : tie.MeasureT-loop
-μ-loop colliders₀ count key n₀ colliders n = count - n
+μ-loop given₀ count key n₀ given n = count - n
 
 pub fill-colliders-spec : {M : Type 1} → statement M
 fill-colliders-spec =
