@@ -53,12 +53,6 @@ module _ (s : Settings) (answer : Bool) (proposal : List ProposedManifold) (c1 c
   unfolding overlapping
   overlapped-recycled k c e = (λ i. overlapping s answer proposal c1 c2 a b p (e i) (c i))
 
--- a full update is not a recycled one
-pub full-answers : (s : Settings) (answer : Bool) (proposal : List ProposedManifold) (c1 c2 : Collider) (a b : Side) (p : Pair) {before after : List ℕ} {r : Outcome} → Updates (renewed s answer proposal c1 c2 a b p) before after r
-    → Updates (renewed s answer proposal c1 c2 a b p) before after (record { bit = r .bit; recycled = false; distance = r .distance })
-unfolding renewed
-full-answers s answer proposal c1 c2 a b p h = record { words = h .words; bit = h .bit; recycled = refl; distance = h .distance }
-
 -- ---- rules 1 and 2
 pub skipped-updates : (p : Pair) (w : List ℕ) (r : Outcome) → SkippedIs r → Updates (skippedUpdate p) w w r
 unfolding afterWords

@@ -101,8 +101,7 @@ fn update_full(
     }
 }
 
-// Rules 4 to 12. What a full update answers is taken field by field, so that a recycled pair's answer stays in registers; and in two
-// ways, since the compiler would make one call of the two, and copy the full update into the loop.
+// Rules 4 to 12.
 fn update_overlapping(
     s: Settings,
     c1: ColliderRecord,
@@ -118,22 +117,12 @@ fn update_overlapping(
     let flags = load_flags(words, 9);
     let cache = load_cache(words, 20);
     let RecyclingCache::Cached(k) = cache else {
-        let o = update_full(s, c1, c2, a, b, proposal, words);
-        return Outcome {
-            bit: o.bit,
-            recycled: false,
-            distance: o.distance,
-        };
+        return update_full(s, c1, c2, a, b, proposal, words);
     };
     if recycle(s, flags.touching, a, b, cache) {
         return update_recycled(words, a, b, k);
     }
-    let o = update_full(s, c1, c2, a, b, proposal, words);
-    Outcome {
-        bit: o.bit,
-        recycled: o.recycled,
-        distance: o.distance,
-    }
+    update_full(s, c1, c2, a, b, proposal, words)
 }
 
 // The body that a collider names.

@@ -3,7 +3,7 @@ use mathlib.Core.Path.{sym, ap, _∙_}
 use Rattle.rules.specs.Records.{PairFlags}
 use Rattle.contact_records.specs.Recorded.{pairAt}
 use Rattle.contact_records.specs.StateViews.{cacheOf}
-use Rattle.contact_update.specs.Branches.{updates-by, recycles-read, overlapped-full, overlapped-none, overlapped-recycled, full-answers}
+use Rattle.contact_update.specs.Branches.{updates-by, recycles-read, overlapped-full, overlapped-none, overlapped-recycled}
 use borrow.Author.Needs.{needs}
 use Rattle.contact_update.proofs.record.update_overlapping.Statement.{statement}
 use Rattle.contact_update.proofs.record.update_overlapping.Tie as tie
@@ -15,7 +15,7 @@ returns : tie.Need-returns
 unfolding pairAt
 returns c =
     record {
-      under = λ id. updates-by (overlapped-none _ _ _ _ _ _ _ (pairAt (c .before .before .before .before .before .before .before .before .before .before .before .before .args .words .now) 0 id) (sym (c .before .before .before .before .before .before .load-cache .ensures) ∙ ap cacheOf (c .before .before .before .before .enum-told .given .1))) (full-answers _ _ _ _ _ _ _ (pairAt (c .before .before .before .before .before .before .before .before .before .before .before .before .args .words .now) 0 id) (c .before .before .update-full .ensures .under id));
+      under = λ id. updates-by (overlapped-none _ _ _ _ _ _ _ (pairAt (c .before .before .before .before .before .before .before .before .before .before .before .before .args .words .now) 0 id) (sym (c .before .before .before .before .before .before .load-cache .ensures) ∙ ap cacheOf (c .before .before .before .before .enum-told .given .1))) (c .before .before .update-full .ensures .under id);
     }
 
 update-recycled-requires : tie.Need-update-recycled-requires
