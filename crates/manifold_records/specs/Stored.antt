@@ -49,3 +49,15 @@ manifold-stored xs at m h p q =
     let n : m .count ≡ length (map pointOf (take (m .count) (m .points))) = sym (length-map (take (m .count) (m .points)) pointOf ∙ length-take-le (m .count) (m .points) h) in
     q ∙ ap (λ (ys : List ℕ). put ys (at + 9) ws) p ∙ put-next xs at (surfaceWords m) ws 9 refl
     ∙ ap (λ (k : ℕ). put xs at (k ∷ vec3Words (m .normal) ++ (floatWord (m .friction) ∷ floatWord (m .restitution) ∷ []) ++ vec3Words (m .«tangent_velocity») ++ ws)) n
+
+pub manifolds-stored : (xs : List ℕ) (at : ℕ) (ms : ContactManifolds) {a b c : List ℕ} → ms .count ≤ 6 → length (ms .list) ≡ 6 → a ≡ put xs at (ms .count ∷ [])
+    → b ≡ put a (at + 1) (each manifoldWords (map manifoldOf (take (ms .count) (ms .list)))) → c ≡ put b (at + 1 + ms .count * 81) (zeros (486 - ms .count * 81))
+    → c ≡ put xs at (manifoldsWords (manifoldsOf ms))
+unfolding manifoldsWords manifoldsOf
+manifolds-stored xs at ms {a} l n p q r =
+    let us = map manifoldOf (take (ms .count) (ms .list)) in
+    let ws = each manifoldWords us in
+    let e : length us ≡ ms .count = length-map (take (ms .count) (ms .list)) manifoldOf ∙ length-take-le (ms .count) (ms .list) (omega arith) in
+    let z : length ws ≡ ms .count * 81 = length-each manifoldWords 81 length-manifold us ∙ ap (λ (k : ℕ). k * 81) e in
+    padded-stored 486 a (at + 1) ws (ms .count * 81) q r z (omega arith) ∙ ap (λ (ys : List ℕ). put ys (at + 1) (padded 486 ws)) p
+    ∙ put-next xs at (ms .count ∷ []) (padded 486 ws) 1 refl ∙ ap (λ (k : ℕ). put xs at (k ∷ padded 486 ws)) (sym e)
