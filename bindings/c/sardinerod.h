@@ -5,8 +5,8 @@
  * The library needs memcpy and memset, and nothing else. docs/BUFFERS.md has every row and its words.
  *
  * A row is a pointer and its number of words. A float is a word, its IEEE bits; a mark is 0 or 1; an optional value is a mark and
- * its words. A row that is written may not overlap another row of the call. Rows may have any length and hold any words: what does
- * not fit is refused. A call allocates nothing and keeps no pointer.
+ * its words. A row that is written may not overlap another row of the call, and no pointer may be null. Rows may have any length and
+ * hold any words: what does not fit is refused. A call allocates nothing and keeps no pointer.
  */
 #ifndef SARDINEROD_H
 #define SARDINEROD_H
