@@ -1,3 +1,4 @@
 pub mod Motions
 pub mod RecycleLaws
 pub mod Views
+pub mod ChangeLaws

@@ -1,6 +1,4 @@
 pub mod Features
-pub mod Matching
-pub mod MatchingSteps
 pub mod Points
 pub mod Refusals
 pub mod Views

@@ -1,4 +1,4 @@
-// Contact ids, features, points and manifolds by value; matching and pruning of points. From avian's collision/contact_types.
+// Contact ids, features, points by value and the recycling cache; when points match, and pruning. From avian's collision/contact_types.
 pub mod contact_id;
 pub mod contact_manifold;
 pub mod contact_point;

@@ -1,13 +1,9 @@
-// Warm starting: a new point takes the impulses of the old point that it matches. From `match_contacts` of avian's contact_types/mod.rs.
+// When a new point matches an old one. From `match_contacts` of avian's contact_types/mod.rs; the loops over points and manifolds stand in `manifold_matching`.
 ghost use mathlib.Core.Path.{_≡_};
 ghost use mathlib.Core.Bool.{_&&_};
-ghost use Prim.Native.Nat.{_≤_};
 ghost use lib.Dec.{eqb};
-ghost use Rattle.rules.specs.Matching.{byNumber, unknown, close, anchorsMatch, matches, withImpulses, matchedPoint};
-ghost use Rattle.contact_types.specs.Views.{pointOf, pointsOf};
-ghost use Rattle.contact_types.specs.Matching.{Matched, MatchedAll, Stored};
-use crate::contact_manifold::ContactManifold;
-use crate::contact_manifold::ContactManifolds;
+ghost use Rattle.rules.specs.Matching.{byNumber, unknown, close, anchorsMatch, matches};
+ghost use Rattle.contact_types.specs.Views.{pointOf};
 use crate::contact_point::ContactPoint;
 use crate::feature_id::PackedFeatureId;
 use math::vec::Vec3;
@@ -61,82 +57,8 @@ fn close_anchors(new: ContactPoint, old: ContactPoint, threshold_squared: f32) -
 }
 
 // By features, else by anchors.
-fn matches(new: ContactPoint, old: ContactPoint, threshold_squared: f32) -> bool
+pub fn matches(new: ContactPoint, old: ContactPoint, threshold_squared: f32) -> bool
     ensures { λ r. ⌜ r ≡ matches byNumber «threshold_squared» (pointOf new) (pointOf old) ⌝ }
 {
     same_features(new, old) || close_anchors(new, old, threshold_squared)
-}
-
-// Only the two warm start impulses are taken.
-fn with_impulses(mut new: ContactPoint, old: ContactPoint) -> ContactPoint
-    ensures { λ r. ⌜ pointOf r ≡ withImpulses (pointOf new) (pointOf old) ⌝ }
-{
-    let tangent = old.warm_start_tangent_impulse;
-    new.warm_start_normal_impulse = old.warm_start_normal_impulse;
-    new.warm_start_tangent_impulse = tangent;
-    new
-}
-
-// The first old point that matches gives its impulses.
-fn match_point(new: ContactPoint, previous: ContactManifold, threshold_squared: f32) -> ContactPoint
-    requires { ⌜ previous .count ≤ 4 ⌝ }
-    ensures { λ r. ⌜ pointOf r ≡ matchedPoint byNumber «threshold_squared» (pointsOf previous) (pointOf new) ⌝ }
-{
-    let olds = previous.points;
-    let count = previous.count as usize;
-    let mut k = 0;
-    while k < count {
-        let old = olds[k];
-        if matches(new, old, threshold_squared) {
-            return with_impulses(new, old);
-        }
-        k += 1;
-    }
-    new
-}
-
-impl ContactManifold {
-    // Each point takes the impulses of the old point that it matches.
-    pub fn match_contacts(
-        mut self,
-        previous: ContactManifold,
-        distance_threshold: f32,
-    ) -> ContactManifold
-        requires { ⌜ (self .count ≤ 4) × (previous .count ≤ 4) ⌝ }
-        ensures { λ r. ⌜ Matched self previous «distance_threshold» r ⌝ }
-    {
-        let threshold_squared = distance_threshold * distance_threshold;
-        let count = self.count as usize;
-        let mut points = self.points;
-        let mut j = 0;
-        while j < count {
-            let new = points[j];
-            let matched = match_point(new, previous, threshold_squared);
-            points[j] = matched;
-            j += 1;
-        }
-        self.points = points;
-        self
-    }
-}
-
-// Against every old manifold in turn: a later one overrides.
-pub fn match_all(
-    new: ContactManifold,
-    old: ContactManifolds,
-    distance_threshold: f32,
-) -> ContactManifold
-    requires { ⌜ (new .count ≤ 4) × Stored old ⌝ }
-    ensures { λ r. ⌜ MatchedAll new old «distance_threshold» r ⌝ }
-{
-    let list = old.list;
-    let count = old.count as usize;
-    let mut m = new;
-    let mut i = 0;
-    while i < count {
-        let previous = list[i];
-        m = m.match_contacts(previous, distance_threshold);
-        i += 1;
-    }
-    m
 }

@@ -1,6 +1,6 @@
 // Matching of a new manifold with up to 6 old ones: the impulses of each new point. Single cases have one old manifold.
+// The loops are the table's own: what is tested is `matches`, and the order in which the rule uses it.
 ghost use Prim.Native.Nat.{_≤_};
-ghost use Rattle.contact_types.specs.Matching.{Stored};
 use crate::draws::draw;
 use crate::draws::number;
 use crate::draws::vector;
@@ -8,11 +8,9 @@ use crate::line::print_end;
 use crate::line::print_float;
 use crate::line::print_name;
 use crate::line::print_word;
-use contact_types::contact_manifold::ContactManifold;
-use contact_types::contact_manifold::ContactManifolds;
 use contact_types::contact_point::ContactPoint;
 use contact_types::feature_id::PackedFeatureId;
-use contact_types::matching::match_all;
+use contact_types::matching::matches;
 use math::bits::float_of;
 use math::vec::Vec2;
 use math::vec::Vec3;
@@ -44,6 +42,12 @@ const THRESHOLDS: [u32; 12] = [
     0x3dcc_ccce,
     0x7f80_0000,
 ];
+
+// A manifold's points: the first `count` of the list.
+struct Points {
+    list: [ContactPoint; 4],
+    count: u32,
+}
 
 fn offset(d: u32) -> f32 {
     float_of(OFFSETS[(d % 8) as usize])
@@ -114,41 +118,81 @@ fn contact(owner: u32, slot: u32, features: u32, anchors: u32) -> ContactPoint {
 }
 
 // All places are filled. The styles are the case's.
-fn manifold(case: u32, slot: u32) -> ContactManifold
+fn manifold(case: u32, slot: u32) -> Points
     ensures { λ r. ⌜ r .count ≤ 4 ⌝ }
 {
     let features = draw(case, 1) % 4;
     let anchors = draw(case, 2) % 4;
     let key = draw(case, slot);
-    ContactManifold {
-        points: [
+    Points {
+        list: [
             contact(key, 1, features, anchors),
             contact(key, 2, features, anchors),
             contact(key, 3, features, anchors),
             contact(key, 4, features, anchors),
         ],
         count: draw(key, 5) % 5,
-        normal: Vec3::ZERO,
-        friction: 0.0,
-        restitution: 0.0,
-        tangent_velocity: Vec3::ZERO,
     }
 }
 
-fn manifolds(case: u32) -> ContactManifolds
-    ensures { λ r. ⌜ Stored r ⌝ }
+// Only the two warm start impulses are taken.
+fn with_impulses(mut new: ContactPoint, old: ContactPoint) -> ContactPoint {
+    let tangent = old.warm_start_tangent_impulse;
+    new.warm_start_normal_impulse = old.warm_start_normal_impulse;
+    new.warm_start_tangent_impulse = tangent;
+    new
+}
+
+// The first old point that matches gives its impulses.
+fn match_point(new: ContactPoint, olds: Points, threshold_squared: f32) -> ContactPoint
+    requires { ⌜ olds .count ≤ 4 ⌝ }
 {
-    ContactManifolds {
-        list: [
-            manifold(case, 10),
-            manifold(case, 11),
-            manifold(case, 12),
-            manifold(case, 13),
-            manifold(case, 14),
-            manifold(case, 15),
-        ],
-        count: draw(case, 5) % 7,
+    let list = olds.list;
+    let count = olds.count as usize;
+    let mut k = 0;
+    while k < count {
+        let old = list[k];
+        if matches(new, old, threshold_squared) {
+            return with_impulses(new, old);
+        }
+        k += 1;
     }
+    new
+}
+
+// Each point, against the points of one old manifold.
+fn match_contacts(mut news: Points, olds: Points, distance_threshold: f32) -> Points
+    requires { ⌜ (news .count ≤ 4) × (olds .count ≤ 4) ⌝ }
+    ensures { λ r. ⌜ r .count ≤ 4 ⌝ }
+{
+    let threshold_squared = distance_threshold * distance_threshold;
+    let count = news.count as usize;
+    let mut list = news.list;
+    let mut j = 0;
+    while j < count {
+        let new = list[j];
+        let matched = match_point(new, olds, threshold_squared);
+        list[j] = matched;
+        j += 1;
+    }
+    news.list = list;
+    news
+}
+
+// Against each of the case's old manifolds in turn: a later one overrides.
+fn match_all(case: u32, news: Points) -> Points
+    requires { ⌜ news .count ≤ 4 ⌝ }
+    ensures { λ r. ⌜ r .count ≤ 4 ⌝ }
+{
+    let count = draw(case, 5) % 7;
+    let mut m = news;
+    let mut i = 0;
+    while i < count {
+        let olds = manifold(case, 10 + i);
+        m = match_contacts(m, olds, threshold(case));
+        i += 1;
+    }
+    m
 }
 
 fn print_impulses(p: ContactPoint) {
@@ -157,16 +201,16 @@ fn print_impulses(p: ContactPoint) {
     print_float(p.warm_start_tangent_impulse.y);
 }
 
-fn print_line(name: &[u8], c: u32, m: ContactManifold)
+fn print_line(name: &[u8], c: u32, m: Points)
     requires { ⌜ m .count ≤ 4 ⌝ }
 {
     print_name(name);
     print_word(c);
-    let points = m.points;
+    let list = m.list;
     let count = m.count as usize;
     let mut j = 0;
     while j < count {
-        let p = points[j];
+        let p = list[j];
         print_impulses(p);
         j += 1;
     }
@@ -176,7 +220,7 @@ fn print_line(name: &[u8], c: u32, m: ContactManifold)
 fn print_case(c: u32) {
     let key = draw(c, 1);
     let new = manifold(key, 4);
-    print_line(b"match", c, match_all(new, manifolds(key), threshold(key)));
+    print_line(b"match", c, match_all(key, new));
 }
 
 fn print_single_case(c: u32) {
@@ -185,7 +229,7 @@ fn print_single_case(c: u32) {
     print_line(
         b"match_one",
         c,
-        new.match_contacts(manifold(key, 10), threshold(key)),
+        match_contacts(new, manifold(key, 10), threshold(key)),
     );
 }
 

@@ -2,12 +2,10 @@
 use mathlib.Core.Path.{_≡_, refl, sym, ap, subst, _∙_}
 use Prim.Native.Nat.{ℕ, _+_, _*_, _<_}
 use mathlib.Core.Bool.{Bool, true, false, cond, not, _&&_, true≢false}
-use mathlib.Core.List.{List, _∷_, _++_}
+use mathlib.Core.List.{List}
 use mathlib.Core.Option.{Option, none, some}
 use borrow.Author.Tests.{ltb-true, not-true, not-false}
 use lib.Dec.{ltb, eqb}
-use lib.Ieee.{ofBits, toBits}
-use Rattle.rows.specs.Rows.{put}
 use Rattle.rules.specs.Inputs.{Settings, Collider, Body, ProposedManifold}
 use Rattle.rules.specs.Limits.{colliders, bodies}
 use Rattle.rules.specs.NumberLaws.{every-at}
@@ -15,15 +13,11 @@ use Rattle.rules.specs.Records.{Cache, Pair}
 use Rattle.rules.specs.Recycling.{recycles}
 use Rattle.rules.specs.Sides.{Side, overlap, interact, sideOf}
 use Rattle.rules.specs.Surface.{orElse}
-use Rattle.rules.specs.Update.{Way, isRecycled, Updated, bodyOf, renewed, overlapping, updatedBetween}
-use Rattle.words.specs.Words.{wordAt, floatWord}
+use Rattle.rules.specs.Update.{Updated, bodyOf, renewed, overlapping, updatedBetween}
+use Rattle.words.specs.Words.{wordAt}
 use Rattle.collider.specs.Layout as collider-place
 use Rattle.collider.specs.Range.{isMark, colliderFits, collidersFit}
 use Rattle.collider.specs.Recorded.{numberIfAt, presentCollider, colliderAt}
-use Rattle.manifold_records.specs.Written.{manifoldsWords}
-use Rattle.contact_records.specs.StateViews.{flagsOf, cachedOf}
-use Rattle.contact_records.specs.Written.{flagsWords, cacheWords, stateWords}
-use Rattle.contact_types.specs.Views.{manifoldsOf}
 use Rattle.contact_range.specs.RangeLaws.{first-of, rest-of}
 use Rattle.contact_update.specs.After.{afterWords}
 use Rattle.contact_update.specs.Made.{skippedUpdate, apartUpdate, recycledUpdate, overlapped}

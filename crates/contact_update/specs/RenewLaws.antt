@@ -1,6 +1,6 @@
 -- A full update from what its functions give. Assumes nothing.
 use mathlib.Core.Path.{_≡_, refl, sym, ap, _∙_}
-use mathlib.Core.Logic.{inl, inr}
+use mathlib.Core.Logic.{inr}
 use Prim.Native.Nat.{ℕ, zero, suc, _+_}
 use native.Mathlib.Omega.{arith}
 use mathlib.Core.Bool.{Bool, false, not}
@@ -9,7 +9,7 @@ use mathlib.Core.Option.{some}
 use borrow.Author.Tests.{ne-eqb}
 use lib.Dec.{eqb}
 use lib.Ieee.{Float, ofBits, toBits}
-use lib.IntN.{ℤ, pos, _-ℤ_}
+use lib.IntN.{pos, _-ℤ_}
 use lib.ListN.{length}
 use Rattle.math.specs.Floats.{_⊕_}
 use Rattle.rows.specs.Laws.{put-next, put-comm}
@@ -61,7 +61,7 @@ module _ (s : Settings) (answer : Bool) (proposal : List ProposedManifold) (c1 c
   same-left : remaining (s .stepTime) a b f (flags .modifyContacts) answer proposal ≡ remain
   same-left = λ i. remaining (s .stepTime) a b (same-surface i) (ef i .modifyContacts) answer proposal
 
-  module _ {mid : List ℕ} (r : Renewal) (m : ManifoldsRenewed s (remaining (s .stepTime) a b f (flags .modifyContacts) answer proposal) w mid new)
+  module _ {mid : List ℕ} (r : Renewal) (m : ManifoldsRenewed s (manifoldsAt w place.manifoldsPlace) (remaining (s .stepTime) a b f (flags .modifyContacts) answer proposal) w mid new)
       (state : StateRenewed c1 c2 a b f flags old new r) where
     same-touching : not (eqb new 0) ≡ not (isEmpty remain)
     same-touching = ap not (sym (empty-count remain new (sym (ap length same-left) ∙ m .count)))

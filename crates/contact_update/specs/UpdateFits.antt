@@ -28,7 +28,7 @@ use Rattle.contact_records.specs.Recorded.{pairAt}
 use Rattle.proposals.specs.Range.{Proposed}
 use Rattle.proposals.specs.Recorded.{proposalAt, hookAt}
 use Rattle.contact_update.specs.After.{recordUpdated}
-use Rattle.narrow_phase.specs.ChangeLaws.{change-fit}
+use Rattle.contact_parameters.specs.ChangeLaws.{change-fit}
 use Rattle.contact_update.specs.FitLeaves.{bits-fit, read-fits, product-fits, cond-fit, maximum-fits, minimum-fits, root-fits, identity-fits, relative-position-fits, relative-rotation-fits}
 use Rattle.contact_update.specs.ManifoldFits.{FitSurface, FitProposal, proposal-read, remaining-fits, matched-fits, manifolds-mapped, recycled-manifold-fits}
 

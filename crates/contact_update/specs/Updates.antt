@@ -22,7 +22,6 @@ use Rattle.rules.specs.Update.{isRecycled, Updated, cacheOf, enabled, matched, 
 use Rattle.collider.specs.Layout.{collidersLength, bodiesLength}
 use Rattle.collider.specs.Range.{collidersFit}
 use Rattle.contact_records.specs.Layout.{contactSize, manifoldsPlace}
-use Rattle.manifold_records.specs.Recorded.{manifoldsAt}
 use Rattle.contact_records.specs.Recorded.{pairAt}
 use Rattle.contact_records.specs.StateViews.{flagsOf, cachedOf}
 use Rattle.manifold_records.specs.Written.{manifoldsWords}
@@ -79,9 +78,9 @@ abbrev pub manifoldAfter : Motion → Manifold → Manifold
 manifoldAfter motion m = withPoints m (map (pointAfter motion (m .normal)) (m .points))
 
 -- ---- rules 6 to 12
--- The promise of `renew_manifolds`: of these new manifolds, matched, the words are stored.
-pub record ManifoldsRenewed (s : Settings) (news : List Manifold) (before after : List ℕ) (r : ℕ) : Type 0 where
-  pub words : after ≡ put before manifoldsPlace (manifoldsWords (matched s (manifoldsAt before manifoldsPlace) news))
+-- The promise of `renew_manifolds`: of these new manifolds, matched against the old ones, the words are stored.
+pub record ManifoldsRenewed (s : Settings) (olds news : List Manifold) (before after : List ℕ) (r : ℕ) : Type 0 where
+  pub words : after ≡ put before manifoldsPlace (manifoldsWords (matched s olds news))
   pub count : length news ≡ r
   pub few : r ≤ 6
 

@@ -1,5 +1,4 @@
-// A full update of a pair: rules 6 to 12. Its manifolds are made, matched and stored in one function, where their list stays in place:
-// passed by value it would be copied.
+// A full update of a pair: rules 6 to 12. Its manifolds are made and matched in its words, where they stand: passed by value they would be copied.
 ghost use mathlib.Core.Path.{_≡_};
 ghost use mathlib.Core.Bool.{cond, _&&_};
 ghost use mathlib.Core.List.{[], _∷_, _++_};
@@ -10,6 +9,8 @@ ghost use Rattle.rows.specs.Rows.{put};
 ghost use Rattle.rules.specs.Update.{remaining};
 ghost use Rattle.collider.specs.Views.{plainSettings, plainCollider, plainSide};
 ghost use Rattle.manifold_records.specs.Counts.{Counted};
+ghost use Rattle.manifold_records.specs.Recorded.{manifoldsAt};
+ghost use Rattle.manifold_matching.specs.Matched.{manifoldsFrom, OldManifolds};
 ghost use Rattle.contact_records.specs.Layout.{contactSize, manifoldsPlace};
 ghost use Rattle.contact_records.specs.StateViews.{flagsOf, cachedOf};
 ghost use Rattle.contact_records.specs.Written.{flagsWords, cacheWords};
@@ -22,6 +23,11 @@ ghost use Rattle.contact_update.specs.Updates.{ManifoldsRenewed, StateRe
 use collider::collider_record::ColliderRecord;
 use collider::settings::Settings;
 use collider::side::Side;
+use contact_parameters::renewing::cache_of;
+use contact_parameters::renewing::count_change;
+use contact_parameters::renewing::is_enabled;
+use contact_parameters::renewing::renewed_flags;
+use contact_parameters::renewing::status_bit;
 use contact_parameters::surface::Surface;
 use contact_range::layout::MANIFOLD_SIZE;
 use contact_range::layout::MANIFOLDS_PLACE;
@@ -31,17 +37,12 @@ use contact_records::state::store_cache;
 use contact_records::state::store_flags;
 use contact_records::state::word_of_int;
 use contact_types::contact_manifold::ContactRecyclingCache;
-use manifold_records::manifold::load_manifold;
-use manifold_records::manifold::store_manifold;
+use manifold_matching::matching::match_manifolds;
 use manifold_records::zeros::store_zeros;
 use math::constants::TENTH;
-use narrow_phase::manifold::remaining_manifolds;
-use narrow_phase::renewing::cache_of;
-use narrow_phase::renewing::count_change;
-use narrow_phase::renewing::is_enabled;
-use narrow_phase::renewing::renewed_flags;
-use narrow_phase::renewing::status_bit;
+use narrow_phase::manifold::store_remaining;
 use words::row::load_word;
+use words::row::load_words;
 use words::row::store_word;
 
 // What an update makes of a pair besides its manifolds, and what it answers.
@@ -67,7 +68,31 @@ fn matched_count(s: Settings, old: u32, new: u32) -> u32
     old
 }
 
-// Rules 9 to 11: the new manifolds, each matched against every old one in turn, take the place of the old. How many there are.
+// Rules 9 to 11, from a copy of the old manifolds' words: the new ones are made and matched where the old ones stood. How many.
+fn renew_from(
+    words: &mut [u32],
+    olds: &[u32],
+    old: u32,
+    s: Settings,
+    a: Side,
+    b: Side,
+    f: Surface,
+    modify: bool,
+    proposal: &[u32],
+) -> u32
+    requires { ⌜ (length (now words) ≡ contactSize) × OldManifolds (now olds) old × (length (now proposal) ≡ proposalSize) × Proposed (now proposal) 0 ⌝ }
+    ensures { λ r. ⌜ ManifoldsRenewed (plainSettings s) (manifoldsFrom (now (olds .entry)) old) (remaining (s .«step_time») (plainSide a) (plainSide b) (plainSurface f) modify (hookAt (now (proposal .entry)) 0) (proposalAt (now (proposal .entry)) 0)) (now (words .entry)) (now (words .exit)) r ⌝ }
+{
+    let first = MANIFOLDS_PLACE + 1;
+    let n = store_remaining(proposal, s.step_time, a, b, f, modify, words, first);
+    let m = matched_count(s, old, n as u32) as usize;
+    match_manifolds(words, first, n, olds, m, TENTH * s.length_unit);
+    store_word(words, MANIFOLDS_PLACE, n as u32);
+    store_zeros(words, first + n * MANIFOLD_SIZE, 486 - n * MANIFOLD_SIZE);
+    n as u32
+}
+
+// The old manifolds are copied first. Most pairs have one at most, and then no more is copied.
 pub fn renew_manifolds(
     words: &mut [u32],
     s: Settings,
@@ -78,38 +103,17 @@ pub fn renew_manifolds(
     proposal: &[u32],
 ) -> u32
     requires { ⌜ (length (now words) ≡ contactSize) × Counted (now words) manifoldsPlace × (length (now proposal) ≡ proposalSize) × Proposed (now proposal) 0 ⌝ }
-    ensures { λ r. ⌜ ManifoldsRenewed (plainSettings s) (remaining (s .«step_time») (plainSide a) (plainSide b) (plainSurface f) modify (hookAt (now (proposal .entry)) 0) (proposalAt (now (proposal .entry)) 0)) (now (words .entry)) (now (words .exit)) r ⌝ }
+    ensures { λ r. ⌜ ManifoldsRenewed (plainSettings s) (manifoldsAt (now (words .entry)) manifoldsPlace) (remaining (s .«step_time») (plainSide a) (plainSide b) (plainSurface f) modify (hookAt (now (proposal .entry)) 0) (proposalAt (now (proposal .entry)) 0)) (now (words .entry)) (now (words .exit)) r ⌝ }
 {
-    let mut new = remaining_manifolds(proposal, s.step_time, a, b, f, modify);
-    let n = new.count as usize;
-    let threshold = TENTH * s.length_unit;
     let old = load_word(words, MANIFOLDS_PLACE);
-    let olds = matched_count(s, old, new.count) as usize;
-    let mut j = 0;
-    while j < olds {
-        let previous = load_manifold(words, MANIFOLDS_PLACE + 1 + j * MANIFOLD_SIZE);
-        let mut i = 0;
-        while i < n {
-            let m = new.list[i];
-            let matched = m.match_contacts(previous, threshold);
-            new.list[i] = matched;
-            i += 1;
-        }
-        j += 1;
+    if old <= 1 {
+        let mut one = [0u32; 81];
+        load_words(words, MANIFOLDS_PLACE + 1, &mut one);
+        return renew_from(words, &one, old, s, a, b, f, modify, proposal);
     }
-    store_word(words, MANIFOLDS_PLACE, new.count);
-    let mut k = 0;
-    while k < n {
-        let m = new.list[k];
-        store_manifold(words, MANIFOLDS_PLACE + 1 + k * MANIFOLD_SIZE, m);
-        k += 1;
-    }
-    store_zeros(
-        words,
-        MANIFOLDS_PLACE + 1 + n * MANIFOLD_SIZE,
-        486 - n * MANIFOLD_SIZE,
-    );
-    new.count
+    let mut all = [0u32; 486];
+    load_words(words, MANIFOLDS_PLACE + 1, &mut all);
+    renew_from(words, &all, old, s, a, b, f, modify, proposal)
 }
 
 // Rules 6 and 12, from the surface and the two counts of manifolds.

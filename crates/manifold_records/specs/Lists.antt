@@ -5,8 +5,8 @@ use native.Mathlib.Nat.{min-eq-left, not-suc-le-zero, le-of-suc-le-suc}
 use native.Mathlib.Numerals.{add-one}
 use native.Mathlib.Omega.{arith}
 use mathlib.Core.List.{List, [], _∷_, _++_, map, map-append}
-use lib.ListN.{length, getD, take, set, length-append, length-map, length-take}
-use lib.Seq.{take-suc-set, take-append-add, ext-getD}
+use lib.ListN.{length, getD, take, length-append, length-map, length-take}
+use lib.Seq.{take-append-add, ext-getD}
 use Rattle.rows.specs.Slots.{upto}
 use Rattle.rows.specs.SlotLaws.{length-upto, getD-upto}
 use Rattle.manifold_records.specs.Written.{zeros, padded}
@@ -40,13 +40,6 @@ module _ {ℓ} {A : Type ℓ} where
   map-upto-same f g zero e = refl
   map-upto-same f g (suc n) e =
       map-append f (upto n) (n ∷ []) ∙ (λ i. map-upto-same f g n (λ k h. e k (omega arith)) i ++ e n (omega arith) i ∷ []) ∙ sym (map-append g (upto n) (n ∷ []))
-
--- a turn of a loop that loads an array: k are loaded, and the next one is
-pub loaded-step {ℓ ℓ′} : {A : Type ℓ} {B : Type ℓ′} (f : A → B) (h : ℕ → B) (us : List A) (k : ℕ) {q : A} → map f (take k us) ≡ map h (upto k) → f q ≡ h k → k < length us
-    → map f (take (k + 1) (set us k q)) ≡ map h (upto (k + 1))
-loaded-step f h us k {q} e p l =
-    ap (λ (m : ℕ). map f (take m (set us k q))) (add-one k) ∙ ap (map f) (take-suc-set us k q l) ∙ map-append f (take k us) (q ∷ [])
-    ∙ (λ i. e i ++ p i ∷ []) ∙ sym (map-upto-next h k)
 
 -- ---- zeros
 

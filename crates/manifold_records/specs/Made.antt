@@ -1,20 +1,15 @@
 -- Structs made of words, field by field: what each call gives, put together. Assumes nothing.
 use mathlib.Core.Path.{_≡_, ap, _∙_}
-use Prim.Native.Nat.{ℕ, _+_, _*_, _≤_, _<_}
+use Prim.Native.Nat.{ℕ}
 use native.Mathlib.Nat.{add-zero, add-assoc}
-use native.Mathlib.Omega.{arith}
-use mathlib.Core.List.{List, map}
-use lib.ListN.{getD, take}
+use mathlib.Core.List.{List}
 use lib.Ieee.{Float, binary32, ofBits}
 use Rattle.math.specs.declared.vec.Vec3.{Vec3}
 use Rattle.rows.specs.Rows.{part}
 use Rattle.rows.specs.Laws.{getD-part-lit}
 use Rattle.rules.specs.Records.{Point}
-use Rattle.contact_types.specs.Views.{pointOf, pointsOf, manifoldOf}
-use Rattle.contact_types.specs.declared.contact_point.ContactPoint.{ContactPoint}
 use Rattle.words.specs.Words.{wordAt, floatAt, vec3At}
-use Rattle.manifold_records.specs.Counts.{LoadedManifold}
-use Rattle.manifold_records.specs.Recorded.{pointAt, pointsAt, manifoldAt}
+use Rattle.manifold_records.specs.Recorded.{pointAt}
 
 -- a vector, of its words
 abbrev pub vec3By : ℕ → ℕ → ℕ → Vec3
@@ -35,13 +30,3 @@ point-of-part xs at = simp (getD-part-lit, add-zero, add-assoc)
 -- the words were copied out, and made the point
 pub point-loaded : (xs : List ℕ) (at : ℕ) {ws : List ℕ} {p : Point} → ws ≡ part xs at 18 → p ≡ pointAt ws 0 → p ≡ pointAt xs at
 point-loaded xs at e q = q ∙ ap (λ (vs : List ℕ). pointAt vs 0) e ∙ point-of-part xs at
-
-pub manifold-loaded : (xs : List ℕ) (at : ℕ) {n : ℕ} {ps : List ContactPoint} {a b : Vec3} {f r : Float}
-    → n ≡ wordAt xs at → map pointOf (take n ps) ≡ pointsAt xs (at + 9) n → a ≡ vec3At xs (at + 1) → f ≡ floatAt xs (at + 4) → r ≡ floatAt xs (at + 5) → b ≡ vec3At xs (at + 6)
-    → LoadedManifold xs at (record { points = ps; count = n; normal = a; friction = f; restitution = r; «tangent_velocity» = b })
-unfolding manifoldAt manifoldOf pointsOf
-manifold-loaded xs at c p a f r b =
-    record {
-      manifold = λ i. record { points = (p ∙ ap (pointsAt xs (at + 9)) c) i; normal = a i; friction = f i; restitution = r i; tangentVelocity = b i };
-      count = c;
-    }

@@ -1,4 +1,3 @@
-// Points and manifolds in a lent row of words: loaded into structs by value, and stored.
-pub mod manifold;
+// Points and manifolds in a lent row of words: the points loaded into structs by value, and stored.
 pub mod point;
 pub mod zeros;

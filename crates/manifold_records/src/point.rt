@@ -1,8 +1,9 @@
 // A contact point: 18 words.
 ghost use mathlib.Core.Path.{_≡_};
+ghost use mathlib.Core.List.{map};
 ghost use Prim.Native.Nat.{_+_, _≤_};
-ghost use lib.ListN.{length};
-ghost use Rattle.rows.specs.Rows.{put};
+ghost use lib.ListN.{length, take};
+ghost use Rattle.rows.specs.Rows.{put, each};
 ghost use Rattle.contact_types.specs.Views.{pointOf};
 ghost use Rattle.manifold_records.specs.Recorded.{pointAt};
 ghost use Rattle.manifold_records.specs.Written.{pointWords};
@@ -95,4 +96,17 @@ pub fn store_point(g: &mut [u32], at: usize, p: ContactPoint)
 {
     let w = point_words(p);
     store_words(g, at, &w);
+}
+
+// The first n of four points, one after another.
+pub fn store_listed(g: &mut [u32], at: usize, points: [ContactPoint; 4], n: usize)
+    requires { ⌜ (n ≤ 4) × (at + 72 ≤ length (now g)) ⌝ }
+    ensures { λ _. ⌜ now (g .exit) ≡ put (now (g .entry)) at (each pointWords (map pointOf (take n points))) ⌝ }
+{
+    let mut k = 0;
+    while k < n {
+        let p = points[k];
+        store_point(g, at + k * 18, p);
+        k += 1;
+    }
 }

@@ -106,11 +106,6 @@ pruned-few normal n from h l p =
     let e : ltb 4 (length (firstPoints n from)) ≡ false = ap (ltb 4) (first-length n from l) ∙ le-ltb 4 n h in
     record { points = p .points ∙ sym (rw e); few = p .few; four = p .four }
 
--- four points or fewer that stand in an array of four
-pub few-kept : (normal : Vec3) (n : ℕ) (from : List ContactPoint) (ps : List Point) → n ≤ 4 → length from ≡ 4 → firstPoints n from ≡ ps → PrunedTo (pruned normal ps) (record { points = from; count = n })
-few-kept normal n from ps h l e =
-    subst (λ (qs : List Point). PrunedTo (pruned normal qs) (record { points = from; count = n })) e (pruned-few normal n from h (omega (arith, l)) (record { points = refl; few = h; four = l }))
-
 -- more than four
 module _ (normal : Vec3) (n : ℕ) (from : List ContactPoint) (size : length from ≡ 32) (many : 4 < n) (few : n ≤ 32) where
   abbrev seen : ℕ → rules.PrunePoint

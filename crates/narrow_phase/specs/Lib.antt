@@ -3,5 +3,4 @@ pub mod Keeping
 pub mod ListLaws
 pub mod KeepingLaws
 pub mod StayingLaws
-pub mod ChangeLaws
-pub mod MatchLaws
+pub mod StoringLaws

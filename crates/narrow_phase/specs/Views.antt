@@ -1,16 +1,15 @@
--- What a struct of the code is as a plain value of `rules`. Definitions only.
+-- What the points of an array are as plain values of `rules`, and what the functions that store new points and manifolds promise. Definitions only.
 use mathlib.Core.Path.{_≡_}
+use mathlib.Core.Bool.{cond}
 use mathlib.Core.List.{List, map}
 use Prim.Native.Nat.{ℕ, _≤_}
-use lib.Dec.{eqb}
 use lib.ListN.{length, take}
+use Rattle.rows.specs.Rows.{put, each}
 use Rattle.rules.specs.Filtering.{isEmpty}
 use Rattle.rules.specs.Records.{Point, Manifold}
-use Rattle.contact_types.specs.Views.{pointOf, manifoldOf, manifoldsOf}
-use Rattle.contact_types.specs.declared.contact_manifold.ContactManifold.{ContactManifold}
-use Rattle.contact_types.specs.declared.contact_manifold.ContactManifolds.{ContactManifolds}
+use Rattle.contact_types.specs.Views.{pointOf}
 use Rattle.contact_types.specs.declared.contact_point.ContactPoint.{ContactPoint}
-use Rattle.manifold_records.specs.Counts.{FewManifolds}
+use Rattle.manifold_records.specs.Written.{pointWords, manifoldWords}
 use Rattle.narrow_phase.specs.declared.manifold.ManifoldPoints.{ManifoldPoints}
 
 -- the first points of an array
@@ -23,14 +22,20 @@ pub record PrunedTo (ps : List Point) (r : ManifoldPoints) : Type 0 where
   pub few : r .count ≤ 4
   pub four : length (r .points) ≡ 4
 
--- The promise of `filtered_manifold`: this manifold, of at most 4 points, and it is empty if its count is 0.
-pub record ManifoldIs (m : Manifold) (r : ContactManifold) : Type 0 where
-  pub manifold : manifoldOf r ≡ m
-  pub few : r .count ≤ 4
-  pub empty : isEmpty (m .points) ≡ eqb (r .count) 0
+-- The promise of `store_few` and `store_left`: the words of these points stand from that place on. They are r, at most 4.
+pub record PointsStored (ps : List Point) (at : ℕ) (before after : List ℕ) (r : ℕ) : Type 0 where
+  pub words : after ≡ put before at (each pointWords ps)
+  pub count : length ps ≡ r
+  pub few : r ≤ 4
 
--- The same of a pair's manifolds, at most 6.
-pub record ManifoldsAre (ms : List Manifold) (r : ContactManifolds) : Type 0 where
-  pub manifolds : manifoldsOf r ≡ ms
-  pub few : FewManifolds r
-  pub count : length ms ≡ r .count
+-- The promise of `store_filtered`: this manifold's words stand at that place, unless it has no point. Its points are r, at most 4.
+pub record ManifoldStored (m : Manifold) (at : ℕ) (before after : List ℕ) (r : ℕ) : Type 0 where
+  pub words : after ≡ cond (isEmpty (m .points)) before (put before at (manifoldWords m))
+  pub count : length (m .points) ≡ r
+  pub few : r ≤ 4
+
+-- The promise of `store_new` and `store_remaining`: the words of these manifolds stand from that place on. They are r, at most 6.
+pub record ManifoldsStored (ms : List Manifold) (at : ℕ) (before after : List ℕ) (r : ℕ) : Type 0 where
+  pub words : after ≡ put before at (each manifoldWords ms)
+  pub count : length ms ≡ r
+  pub few : r ≤ 6

@@ -1,4 +1,2 @@
-// A pair's full update: its points moved, filtered and pruned, warm starting, cache and flags. From avian's narrow_phase/system_param.rs.
-pub mod filtering;
+// The new manifolds of one contact's full update, made in its words. From `update_contacts` of avian's narrow_phase/system_param.rs.
 pub mod manifold;
-pub mod renewing;

@@ -1,12 +1,13 @@
 // A pair's new manifolds, from those proposed: points moved, filtered and pruned, empty manifolds left out. Rules 9 and 10.
 ghost use mathlib.Core.Path.{_≡_};
 ghost use mathlib.Core.Bool.{cond};
-ghost use mathlib.Core.List.{map};
+ghost use mathlib.Core.List.{[], _∷_, _++_, map};
 ghost use Prim.Native.Nat.{_+_, _≤_};
 ghost use lib.ListN.{length};
+ghost use Rattle.math.specs.Vec.{zero3};
 ghost use Rattle.rules.specs.Filtering.{movedPoint, staying, prunePoint, pruned, filtered, nonEmpty};
 ghost use Rattle.rules.specs.Update.{remaining};
-ghost use Rattle.words.specs.Words.{wordAt};
+ghost use Rattle.words.specs.Words.{wordAt, floatWord, vec3Words};
 ghost use Rattle.collider.specs.Views.{plainSide};
 ghost use Rattle.contact_parameters.specs.Views.{plainSurface};
 ghost use Rattle.contact_types.specs.Pruned.{prunePointOf};
@@ -14,19 +15,20 @@ ghost use Rattle.contact_types.specs.Views.{pointOf};
 ghost use Rattle.proposals.specs.Layout.{manifoldSize, proposalSize};
 ghost use Rattle.proposals.specs.Range.{Proposed};
 ghost use Rattle.proposals.specs.Recorded.{proposedPointAt, proposedPointsAt, proposedManifoldAt, proposalAt, hookAt};
-ghost use Rattle.narrow_phase.specs.Views.{PrunedTo, ManifoldIs, ManifoldsAre};
+ghost use Rattle.narrow_phase.specs.Views.{PrunedTo, PointsStored, ManifoldStored, ManifoldsStored};
 ghost use Rattle.narrow_phase.specs.Keeping.{KeptNumbers, PlaceOf};
-use crate::filtering::moved_point;
-use crate::filtering::stays;
 use collider::side::Side;
+use contact_filtering::filtering::moved_point;
+use contact_filtering::filtering::stays;
 use contact_parameters::surface::Surface;
-use contact_types::contact_manifold::ContactManifold;
-use contact_types::contact_manifold::ContactManifolds;
 use contact_types::contact_point::ContactPoint;
 use contact_types::pruning::KeptPoints;
 use contact_types::pruning::PrunePoint;
 use contact_types::pruning::prune_points;
-use manifold_records::manifold::no_manifold;
+use manifold_records::point::store_listed;
+use manifold_records::point::store_point;
+use manifold_records::zeros::store_zeros;
+use math::bits::bits_of;
 use math::vec::Vec3;
 use proposals::layout::COUNT_PLACE;
 use proposals::layout::HOOK_PLACE;
@@ -38,6 +40,7 @@ use proposals::layout::POINTS_PLACE;
 use proposals::proposal::load_hook;
 use proposals::proposal::load_proposed_point;
 use words::row::load_word;
+use words::row::store_words;
 use words::vec::load_vec3;
 
 // The points of a new manifold: the first `count`.
@@ -146,9 +149,9 @@ fn kept_points(
     }
 }
 
-// Four points or fewer: those that stay are kept.
-fn few_points(
-    words: &[u32],
+// Four points or fewer: those that stay are stored, one after another. How many.
+fn store_few(
+    proposal: &[u32],
     at: usize,
     n: usize,
     normal: Vec3,
@@ -156,31 +159,30 @@ fn few_points(
     a: Side,
     b: Side,
     f: Surface,
-) -> ManifoldPoints
-    requires { ⌜ (n ≤ 4) × (at + 384 ≤ length (now words)) ⌝ }
-    ensures { λ r. ⌜ PrunedTo (pruned normal (staying «step_time» (f .distance) (map (movedPoint (plainSide a) (plainSide b) (f .margins) normal) (proposedPointsAt (now (words .entry)) at n)))) r ⌝ }
+    words: &mut [u32],
+    to: usize,
+) -> usize
+    requires { ⌜ (n ≤ 4) × (at + 384 ≤ length (now proposal)) × (to + 72 ≤ length (now words)) ⌝ }
+    ensures { λ r. ⌜ PointsStored (pruned normal (staying «step_time» (f .distance) (map (movedPoint (plainSide a) (plainSide b) (f .margins) normal) (proposedPointsAt (now (proposal .entry)) at n)))) to (now (words .entry)) (now (words .exit)) r ⌝ }
 {
     let margins = f.margins;
     let distance = f.distance;
-    let none = ContactPoint::new(Vec3::ZERO, Vec3::ZERO, Vec3::ZERO, 0.0);
-    let mut points = [none; 4];
     let mut count: usize = 0;
     let mut k = 0;
     while k < n {
-        let p = moved_point_at(words, at + k * POINT_SIZE, a, b, margins, normal);
-        points[count] = p;
-        count += one_if(stays(step_time, distance, p));
+        let p = moved_point_at(proposal, at + k * POINT_SIZE, a, b, margins, normal);
+        if stays(step_time, distance, p) {
+            store_point(words, to + count * 18, p);
+            count += 1;
+        }
         k += 1;
     }
-    ManifoldPoints {
-        points,
-        count: count as u32,
-    }
+    count
 }
 
-// The points left of those proposed. An array of 32 is made only where there are more than four.
-fn points_left(
-    words: &[u32],
+// The points left of those proposed, stored. Arrays are made only where there are more than four.
+fn store_left(
+    proposal: &[u32],
     at: usize,
     n: usize,
     normal: Vec3,
@@ -188,82 +190,109 @@ fn points_left(
     a: Side,
     b: Side,
     f: Surface,
-) -> ManifoldPoints
-    requires { ⌜ (n ≤ 32) × (at + 384 ≤ length (now words)) ⌝ }
-    ensures { λ r. ⌜ PrunedTo (pruned normal (staying «step_time» (f .distance) (map (movedPoint (plainSide a) (plainSide b) (f .margins) normal) (proposedPointsAt (now (words .entry)) at n)))) r ⌝ }
+    words: &mut [u32],
+    to: usize,
+) -> usize
+    requires { ⌜ (n ≤ 32) × (at + 384 ≤ length (now proposal)) × (to + 72 ≤ length (now words)) ⌝ }
+    ensures { λ r. ⌜ PointsStored (pruned normal (staying «step_time» (f .distance) (map (movedPoint (plainSide a) (plainSide b) (f .margins) normal) (proposedPointsAt (now (proposal .entry)) at n)))) to (now (words .entry)) (now (words .exit)) r ⌝ }
 {
     if n <= 4 {
-        return few_points(words, at, n, normal, step_time, a, b, f);
+        return store_few(proposal, at, n, normal, step_time, a, b, f, words, to);
     }
-    kept_points(words, at, n, normal, step_time, a, b, f)
+    let left = kept_points(proposal, at, n, normal, step_time, a, b, f);
+    let points = left.points;
+    store_listed(words, to, points, left.count as usize);
+    left.count as usize
 }
 
-// The proposed manifold at a place, filtered and pruned.
-fn filtered_manifold(
-    words: &[u32],
+// The number of points, and what they share.
+fn surface_words(count: u32, normal: Vec3, f: Surface) -> [u32; 9]
+    ensures { λ r. ⌜ r ≡ count ∷ vec3Words normal ++ (floatWord (f .friction) ∷ floatWord (f .restitution) ∷ []) ++ vec3Words zero3 ⌝ }
+{
+    [
+        count,
+        bits_of(normal.x),
+        bits_of(normal.y),
+        bits_of(normal.z),
+        bits_of(f.friction),
+        bits_of(f.restitution),
+        bits_of(0.0),
+        bits_of(0.0),
+        bits_of(0.0),
+    ]
+}
+
+// The proposed manifold at a place, filtered and pruned, is stored unless no point is left. The number of its points.
+fn store_filtered(
+    proposal: &[u32],
     at: usize,
     step_time: f32,
     a: Side,
     b: Side,
     f: Surface,
-) -> ContactManifold
-    requires { ⌜ (at + manifoldSize ≤ length (now words)) × (wordAt (now words) at ≤ 32) ⌝ }
-    ensures { λ r. ⌜ ManifoldIs (filtered «step_time» (plainSide a) (plainSide b) (plainSurface f) (proposedManifoldAt (now (words .entry)) at)) r ⌝ }
+    words: &mut [u32],
+    to: usize,
+) -> usize
+    requires { ⌜ (at + manifoldSize ≤ length (now proposal)) × (wordAt (now proposal) at ≤ 32) × (to + 81 ≤ length (now words)) ⌝ }
+    ensures { λ r. ⌜ ManifoldStored (filtered «step_time» (plainSide a) (plainSide b) (plainSurface f) (proposedManifoldAt (now (proposal .entry)) at)) to (now (words .entry)) (now (words .exit)) r ⌝ }
 {
-    let n = load_word(words, at) as usize;
-    let normal = load_vec3(words, at + NORMAL_PLACE);
-    let few = points_left(words, at + POINTS_PLACE, n, normal, step_time, a, b, f);
-    let points = few.points;
-    ContactManifold {
-        points,
-        count: few.count,
-        normal,
-        friction: f.friction,
-        restitution: f.restitution,
-        tangent_velocity: Vec3::ZERO,
+    let n = load_word(proposal, at) as usize;
+    let normal = load_vec3(proposal, at + NORMAL_PLACE);
+    let from = at + POINTS_PLACE;
+    let count = store_left(proposal, from, n, normal, step_time, a, b, f, words, to + 9);
+    if count == 0 {
+        return 0;
     }
+    store_zeros(words, to + 9 + count * 18, 72 - count * 18);
+    let shared = surface_words(count as u32, normal, f);
+    store_words(words, to, &shared);
+    count
 }
 
-// Those that have points left, in the order proposed. They are stored in the struct that is returned: a list of its own would be copied.
-fn new_manifolds(proposal: &[u32], step_time: f32, a: Side, b: Side, f: Surface) -> ContactManifolds
-    requires { ⌜ (length (now proposal) ≡ proposalSize) × Proposed (now proposal) 0 ⌝ }
-    ensures { λ r. ⌜ ManifoldsAre (nonEmpty (map (filtered «step_time» (plainSide a) (plainSide b) (plainSurface f)) (proposalAt (now (proposal .entry)) 0))) r ⌝ }
+// Those that have points left are stored in the order proposed, one after another. How many.
+fn store_new(
+    proposal: &[u32],
+    step_time: f32,
+    a: Side,
+    b: Side,
+    f: Surface,
+    words: &mut [u32],
+    to: usize,
+) -> usize
+    requires { ⌜ (length (now proposal) ≡ proposalSize) × Proposed (now proposal) 0 × (to + 486 ≤ length (now words)) ⌝ }
+    ensures { λ r. ⌜ ManifoldsStored (nonEmpty (map (filtered «step_time» (plainSide a) (plainSide b) (plainSurface f)) (proposalAt (now (proposal .entry)) 0))) to (now (words .entry)) (now (words .exit)) r ⌝ }
 {
     let n = load_word(proposal, COUNT_PLACE) as usize;
-    let none = no_manifold();
-    let mut ms = ContactManifolds {
-        list: [none; 6],
-        count: 0,
-    };
     let mut count: usize = 0;
     let mut k = 0;
     while k < n {
         let at = MANIFOLDS_PLACE + k * MANIFOLD_SIZE;
-        let m = filtered_manifold(proposal, at, step_time, a, b, f);
-        ms.list[count] = m;
-        count += one_if(m.count != 0);
+        let left = store_filtered(proposal, at, step_time, a, b, f, words, to + count * 81);
+        if left != 0 {
+            count += 1;
+        }
         k += 1;
     }
-    ms.count = count as u32;
-    ms
+    count
 }
 
 // A marked pair whose hook says no loses all of them.
-pub fn remaining_manifolds(
+pub fn store_remaining(
     proposal: &[u32],
     step_time: f32,
     a: Side,
     b: Side,
     f: Surface,
     modify: bool,
-) -> ContactManifolds
-    requires { ⌜ (length (now proposal) ≡ proposalSize) × Proposed (now proposal) 0 ⌝ }
-    ensures { λ r. ⌜ ManifoldsAre (remaining «step_time» (plainSide a) (plainSide b) (plainSurface f) modify (hookAt (now (proposal .entry)) 0) (proposalAt (now (proposal .entry)) 0)) r ⌝ }
+    words: &mut [u32],
+    to: usize,
+) -> usize
+    requires { ⌜ (length (now proposal) ≡ proposalSize) × Proposed (now proposal) 0 × (to + 486 ≤ length (now words)) ⌝ }
+    ensures { λ r. ⌜ ManifoldsStored (remaining «step_time» (plainSide a) (plainSide b) (plainSurface f) modify (hookAt (now (proposal .entry)) 0) (proposalAt (now (proposal .entry)) 0)) to (now (words .entry)) (now (words .exit)) r ⌝ }
 {
-    let mut ms = new_manifolds(proposal, step_time, a, b, f);
     let answer = load_hook(proposal, HOOK_PLACE);
     if modify && !answer {
-        ms.count = 0;
+        return 0;
     }
-    ms
+    store_new(proposal, step_time, a, b, f, words, to)
 }

@@ -2,7 +2,6 @@
 use mathlib.Core.Path.{_≡_, refl}
 use mathlib.Core.List.{map}
 use Prim.Native.Nat.{_≤_, _-_}
-use native.Mathlib.Omega.{arith}
 use lib.ListN.{length, take}
 use Rattle.manifold_records.specs.Recorded.{pointsAt}
 use Rattle.contact_update.specs.After.{pointsPut}

@@ -8,7 +8,7 @@ use mir.ValLaws.{toZ-ofZ}
 use Rattle.rules.specs.Update.{renewedFlags, statusBit}
 use Rattle.contact_records.specs.StateViews.{flagsOf}
 use Rattle.contact_records.specs.Written.{intWord}
-use Rattle.narrow_phase.specs.ChangeLaws.{change-fit}
+use Rattle.contact_parameters.specs.ChangeLaws.{change-fit}
 use borrow.Author.Needs.{needs}
 use Rattle.contact_update.proofs.renewal.renew.Statement.{statement}
 use Rattle.contact_update.proofs.renewal.renew.Tie as tie

@@ -1,0 +1,4 @@
+pub mod Matched
+pub mod MatchedFits
+pub mod StoredOver
+pub mod MatchingLaws

@@ -1,0 +1,93 @@
+// The new manifolds are matched where they stand, against the words of the old ones. From `match_contacts` of avian's contact_types/mod.rs.
+ghost use mathlib.Core.Path.{_≡_};
+ghost use Prim.Native.Nat.{_*_, _+_, _≤_};
+ghost use lib.ListN.{length};
+ghost use Rattle.rows.specs.Rows.{put};
+ghost use Rattle.words.specs.Words.{wordAt};
+ghost use Rattle.manifold_records.specs.Recorded.{pointAt, pointsAt, manifoldAt};
+ghost use Rattle.manifold_matching.specs.Matched.{impulseWords, manifoldsFrom, WrittenManifold, WrittenManifolds, OldManifolds, PointMatched, ManifoldMatched, AllMatched, ManifoldsMatched};
+use contact_types::matching::matches;
+use manifold_records::point::load_point;
+use words::row::load_float;
+use words::row::load_word;
+use words::row::store_float;
+
+// The two warm start impulses of the old point at a place, and nothing else of it.
+fn take_impulses(words: &mut [u32], at: usize, olds: &[u32], from: usize)
+    requires { ⌜ (at + 18 ≤ length (now words)) × (from + 18 ≤ length (now olds)) ⌝ }
+    ensures { λ _. ⌜ now (words .exit) ≡ put (now (words .entry)) (at + 13) (impulseWords (pointAt (now (olds .entry)) from)) ⌝ }
+{
+    store_float(words, at + 13, load_float(olds, from + 13));
+    store_float(words, at + 14, load_float(olds, from + 14));
+    store_float(words, at + 15, load_float(olds, from + 15));
+}
+
+// The first of the n old points that matches gives its impulses.
+fn match_point(
+    words: &mut [u32],
+    at: usize,
+    olds: &[u32],
+    from: usize,
+    n: usize,
+    threshold_squared: f32,
+)
+    requires { ⌜ (at + 18 ≤ length (now words)) × (n ≤ 4) × (from + 72 ≤ length (now olds)) ⌝ }
+    ensures { λ _. ⌜ PointMatched «threshold_squared» (pointsAt (now (olds .entry)) from n) at (now (words .entry)) (now (words .exit)) ⌝ }
+{
+    let new = load_point(words, at);
+    let mut k = 0;
+    while k < n {
+        let old = load_point(olds, from + k * 18);
+        if matches(new, old, threshold_squared) {
+            take_impulses(words, at, olds, from + k * 18);
+            return;
+        }
+        k += 1;
+    }
+}
+
+// Each point of the manifold, against the points of one old manifold.
+fn match_contacts(words: &mut [u32], at: usize, olds: &[u32], from: usize, threshold: f32)
+    requires { ⌜ WrittenManifold (now words) at × (at + 81 ≤ length (now words)) × (from + 81 ≤ length (now olds)) × (wordAt (now olds) from ≤ 4) ⌝ }
+    ensures { λ _. ⌜ ManifoldMatched threshold (manifoldAt (now (olds .entry)) from .points) at (now (words .entry)) (now (words .exit)) ⌝ }
+{
+    let threshold_squared = threshold * threshold;
+    let count = load_word(words, at) as usize;
+    let n = load_word(olds, from) as usize;
+    let mut k = 0;
+    while k < count {
+        match_point(words, at + 9 + k * 18, olds, from + 9, n, threshold_squared);
+        k += 1;
+    }
+}
+
+// Against each of the m old manifolds in turn: a later one overrides.
+fn match_all(words: &mut [u32], at: usize, olds: &[u32], m: usize, threshold: f32)
+    requires { ⌜ WrittenManifold (now words) at × (at + 81 ≤ length (now words)) × OldManifolds (now olds) m ⌝ }
+    ensures { λ _. ⌜ AllMatched threshold (manifoldsFrom (now (olds .entry)) m) at (now (words .entry)) (now (words .exit)) ⌝ }
+{
+    let mut j = 0;
+    while j < m {
+        match_contacts(words, at, olds, j * 81, threshold);
+        j += 1;
+    }
+}
+
+// The n manifolds that stand one after another from a place on.
+pub fn match_manifolds(
+    words: &mut [u32],
+    at: usize,
+    n: usize,
+    olds: &[u32],
+    m: usize,
+    threshold: f32,
+)
+    requires { ⌜ WrittenManifolds (now words) at n × (at + n * 81 ≤ length (now words)) × OldManifolds (now olds) m ⌝ }
+    ensures { λ _. ⌜ ManifoldsMatched threshold (manifoldsFrom (now (olds .entry)) m) at n (now (words .entry)) (now (words .exit)) ⌝ }
+{
+    let mut i = 0;
+    while i < n {
+        match_all(words, at + i * 81, olds, m, threshold);
+        i += 1;
+    }
+}
