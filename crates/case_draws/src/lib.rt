@@ -1,4 +1,5 @@
-// How the programs that are compared with avian's Rust draw their cases, and how they print them (tests/reference has the same draws).
+// What the test programs share: words of a row, hashes, parts of a line, and how those that are compared with avian's Rust draw their cases
+// (tests/reference has the same draws).
 pub mod bodies;
 pub mod colliders;
 pub mod draws;

@@ -24,6 +24,11 @@ pub fn print_count(n: u32) {
     print_number(n);
 }
 
+pub fn print_refused(number: u32) {
+    print_name(b"\trefused");
+    print_count(number);
+}
+
 pub fn print_mark(mark: bool) {
     if mark {
         print_name(b"\t1");

@@ -4,10 +4,10 @@ use crate::graph::change;
 use crate::graph::fill;
 use crate::graph::request;
 use crate::graph::same;
-use crate::line::print_end;
-use crate::line::print_name;
-use crate::line::print_number;
-use crate::line::print_refused;
+use case_draws::line::print_count;
+use case_draws::line::print_end;
+use case_draws::line::print_name;
+use case_draws::line::print_refused;
 use contact_graph::add::AddAnswer;
 use contact_graph::add::add;
 use contact_graph::look_up::LookUpAnswer;
@@ -19,8 +19,8 @@ fn print_found(answer: LookUpAnswer) {
     match answer {
         LookUpAnswer::Found(e) => {
             print_name(b"\tedge");
-            print_number(e.collider1);
-            print_number(e.collider2);
+            print_count(e.collider1);
+            print_count(e.collider2);
         }
         LookUpAnswer::Refused(r) => print_refused(r.number()),
     }
@@ -30,7 +30,7 @@ fn print_added(answer: AddAnswer) {
     match answer {
         AddAnswer::Added(id) => {
             print_name(b"\tid");
-            print_number(id.0);
+            print_count(id.0);
         }
         AddAnswer::Refused(r) => print_refused(r.number()),
     }

@@ -2,7 +2,6 @@
 // of refusals gives, by a plain test in Rust (tests/contact_graph.rs): 2 for damage of what is recorded, else none.
 mod case;
 mod graph;
-mod line;
 mod recorded;
 mod unrecorded;
 

@@ -1,8 +1,8 @@
 // Damages of what is recorded, each condition of refusal 2 by itself where it can be. A record's marks stand at 2, 4, 7 to
 // 17 and 20, its number of manifolds at 36, their numbers of points from 37 on, each 81 after the last.
 use crate::case::print_case;
-use crate::line::print_name;
-use crate::line::print_number;
+use case_draws::line::print_count;
+use case_draws::line::print_name;
 
 const MARKS: [u32; 14] = [2, 4, 7, 8, 9, 10, 11, 12, 13, 14, 15, 16, 17, 20];
 
@@ -31,7 +31,7 @@ pub fn print_numbers() {
 
 fn print_mark(name: &[u8], at: u32, k: u32) {
     print_name(name);
-    print_number(k);
+    print_count(k);
     print_case(b"", &[std::num::wrapping_add_u32(at, k), 2]);
 }
 

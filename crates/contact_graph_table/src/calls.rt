@@ -2,11 +2,11 @@
 use crate::draws::draw;
 use crate::draws::id;
 use crate::draws::request;
-use crate::line::print_end;
-use crate::line::print_name;
-use crate::line::print_number;
-use crate::line::print_refused;
 use crate::recorded::print_recorded;
+use case_draws::line::print_count;
+use case_draws::line::print_end;
+use case_draws::line::print_name;
+use case_draws::line::print_refused;
 use contact_graph::add::AddAnswer;
 use contact_graph::add::add;
 use contact_graph::call::ContactEdge;
@@ -31,7 +31,7 @@ pub fn print_added(answer: AddAnswer) {
     match answer {
         AddAnswer::Added(id) => {
             print_name(b"\tid");
-            print_number(id.0);
+            print_count(id.0);
         }
         AddAnswer::Refused(r) => print_refused(r.number()),
     }
@@ -46,16 +46,16 @@ fn print_removed(answer: RemoveAnswer) {
 
 fn print_body(body: OptionalBody) {
     match body {
-        OptionalBody::Body(n) => print_number(n),
+        OptionalBody::Body(n) => print_count(n),
         OptionalBody::None => print_name(b"\tnone"),
     }
 }
 
 fn print_mark(mark: bool) {
     if mark {
-        print_number(1);
+        print_count(1);
     } else {
-        print_number(0);
+        print_count(0);
     }
 }
 
@@ -63,12 +63,12 @@ fn print_edge(e: ContactEdge) {
     let body1 = e.body1;
     let body2 = e.body2;
     print_name(b"\tedge");
-    print_number(e.id.0);
-    print_number(e.collider1);
-    print_number(e.collider2);
+    print_count(e.id.0);
+    print_count(e.collider1);
+    print_count(e.collider2);
     print_body(body1);
     print_body(body2);
-    print_number(e.pair_index);
+    print_count(e.pair_index);
     print_mark(e.touching);
     print_mark(e.contact_events);
 }
@@ -81,15 +81,15 @@ fn print_found(answer: LookUpAnswer) {
 }
 
 fn print_request(a: Request) {
-    print_number(a.collider1);
-    print_number(a.collider2);
-    print_number(a.has_body1);
-    print_number(a.body1);
-    print_number(a.has_body2);
-    print_number(a.body2);
-    print_number(a.contact_events);
-    print_number(a.modify_contacts);
-    print_number(bits_of(a.speculative_distance));
+    print_count(a.collider1);
+    print_count(a.collider2);
+    print_count(a.has_body1);
+    print_count(a.body1);
+    print_count(a.has_body2);
+    print_count(a.body2);
+    print_count(a.contact_events);
+    print_count(a.modify_contacts);
+    print_count(bits_of(a.speculative_distance));
 }
 
 fn print_add(graph: &mut [u32], key: u32) {
@@ -102,14 +102,14 @@ fn print_add(graph: &mut [u32], key: u32) {
 fn print_remove(graph: &mut [u32], key: u32) {
     let id = id(key);
     print_name(b"remove");
-    print_number(id);
+    print_count(id);
     print_removed(remove(graph, id));
 }
 
 fn print_look_up(graph: &[u32], key: u32) {
     let id = id(key);
     print_name(b"look_up");
-    print_number(id);
+    print_count(id);
     print_found(look_up(graph, id));
 }
 

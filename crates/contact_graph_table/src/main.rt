@@ -2,7 +2,6 @@
 // holds what a plain model in Rust gives for the same calls (tests/contact_graph.rs).
 mod calls;
 mod draws;
-mod line;
 mod recorded;
 mod sizes;
 

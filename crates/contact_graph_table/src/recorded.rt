@@ -1,8 +1,8 @@
 // What a graph of capacity 8 records: the ids given, the numbers listed and free, the listed ids and the free ones in
 // order, and a sum over the listed contacts' records. A word behind a mark of 0 is not recorded: the sum has 0 for it.
 use crate::draws::low;
-use crate::line::print_name;
-use crate::line::print_number;
+use case_draws::line::print_count;
+use case_draws::line::print_name;
 
 // Where the list, the free ids and the records begin.
 const LIST_PLACE: u32 = 4;
@@ -19,7 +19,7 @@ fn word(graph: &[u32], at: usize) -> u32 {
 fn print_ids(graph: &[u32], from: u32, count: u32) {
     let mut k = 0;
     while k < count {
-        print_number(word(graph, from as usize + k as usize));
+        print_count(word(graph, from as usize + k as usize));
         k += 1;
     }
 }
@@ -72,13 +72,13 @@ pub fn print_recorded(graph: &[u32]) {
     let listed = word(graph, 2);
     let freed = word(graph, 3);
     print_name(b"\tgraph");
-    print_number(word(graph, 1));
-    print_number(listed);
-    print_number(freed);
+    print_count(word(graph, 1));
+    print_count(listed);
+    print_count(freed);
     print_name(b"\tlist");
     print_ids(graph, LIST_PLACE, listed);
     print_name(b"\tfree");
     print_ids(graph, FREE_PLACE, freed);
     print_name(b"\trecords");
-    print_number(records_sum(graph, listed));
+    print_count(records_sum(graph, listed));
 }

@@ -1,9 +1,9 @@
 // Capacities and lengths that are refused, and a graph of capacity 256 filled to the last contact.
 use crate::calls::print_added;
 use crate::calls::print_laid_out;
-use crate::line::print_end;
-use crate::line::print_name;
-use crate::line::print_number;
+use case_draws::line::print_count;
+use case_draws::line::print_end;
+use case_draws::line::print_name;
 use contact_graph::add::AddAnswer;
 use contact_graph::add::add;
 use contact_graph::call::Request;
@@ -11,7 +11,7 @@ use contact_graph::lay_out::lay_out;
 
 fn print_lay_out(graph: &mut [u32], capacity: u32) {
     print_name(b"lay_out");
-    print_number(capacity);
+    print_count(capacity);
     print_laid_out(lay_out(graph, capacity));
     print_end();
 }
@@ -77,7 +77,7 @@ pub fn print_full() {
     let mut graph = [0u32; 134404];
     print_lay_out(&mut graph, 256);
     print_name(b"fill");
-    print_number(fill(&mut graph));
+    print_count(fill(&mut graph));
     print_added(add(&mut graph, nth(255)));
     print_added(add(&mut graph, nth(256)));
     print_end();

@@ -3,10 +3,10 @@
 ghost use Prim.Native.Nat.{_<_};
 use crate::places::body_at;
 use crate::places::collider_at;
-use crate::places::past;
 use crate::places::position;
-use crate::places::put;
-use crate::places::slot;
+use case_draws::draws::past;
+use case_draws::draws::slot;
+use case_draws::places::put;
 use math::bits::bits_of;
 
 // Step time 1/64, length unit 1, contact tolerance 0.005, recycle distance 0.05, squared cosine 0.99; matching; friction 0.5 by

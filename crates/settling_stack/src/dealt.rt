@@ -1,7 +1,7 @@
 // The shares of three workers: the listed pairs in turn, worker by worker.
-use crate::places::put;
-use crate::places::slot;
-use crate::places::word;
+use case_draws::draws::slot;
+use case_draws::places::put;
+use case_draws::places::word;
 
 // How many of the listed pairs worker w has.
 fn own(listed: u32, w: u32) -> u32 {

@@ -1,9 +1,9 @@
 // The impulses that a solver writes into the stored points between two steps: made up, from 0.5 to 1.
-use crate::places::low;
-use crate::places::put;
 use crate::places::record_at;
-use crate::places::slot;
-use crate::places::word;
+use case_draws::draws::low;
+use case_draws::draws::slot;
+use case_draws::places::put;
+use case_draws::places::word;
 
 fn impulse(step: u32, id: u32, point: u32, k: u32) -> u32 {
     let a = low(step as u64 * 7919 + id as u64 * 104729);

@@ -5,9 +5,7 @@
 mod additions;
 mod boxes;
 mod dealt;
-mod hash;
 mod impulses;
-mod line;
 mod moves;
 mod places;
 mod play;

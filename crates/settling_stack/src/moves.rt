@@ -2,11 +2,11 @@
 // boxes are lifted.
 use crate::boxes::body_presence;
 use crate::places::body_at;
-use crate::places::past;
 use crate::places::position;
-use crate::places::put;
 use crate::places::put_float;
-use crate::places::slot;
+use case_draws::draws::past;
+use case_draws::draws::slot;
+use case_draws::places::put;
 
 // About y: y is 0, 0.05 or 0.1, w its cosine; x and z are 0.
 const TURNS: [u32; 3] = [0x0000_0000, 0x3d4c_cccd, 0x3dcc_cccd];

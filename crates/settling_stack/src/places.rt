@@ -1,40 +1,9 @@
-// Words of the lent rows, read and stored where there is such a place, and the places of the records.
-ghost use Prim.Native.Nat.{_<_};
+// The places of the records in the lent rows.
+use case_draws::draws::slot;
+use case_draws::places::put;
+use case_draws::places::word;
 use math::bits::bits_of;
 use math::bits::float_of;
-
-// The lowest 32 bits.
-pub fn low(x: u64) -> u64
-    ensures { λ r. ⌜ r < 4294967296 ⌝ }
-{
-    x % 4294967296
-}
-
-// The j-th number from a base on.
-pub fn slot(base: u32, j: u32) -> u32 {
-    low(base as u64 + j as u64) as u32
-}
-
-// How far i is past a base.
-pub fn past(i: u32, base: u32) -> u32 {
-    if i < base { 0 } else { i - base }
-}
-
-// 0 past the end.
-pub fn word(row: &[u32], at: u32) -> u32 {
-    if (at as usize) < row.len() {
-        row[at as usize]
-    } else {
-        0
-    }
-}
-
-// Nothing past the end.
-pub fn put(row: &mut [u32], at: u32, word: u32) {
-    if (at as usize) < row.len() {
-        row[at as usize] = word;
-    }
-}
 
 pub fn raise(row: &mut [u32], at: u32, by: u32) {
     put(row, at, slot(word(row, at), by));

@@ -1,12 +1,12 @@
 // What is proposed to a listed pair: a manifold of four points where its boxes are at most 0.02 apart, at the upper box's lower
 // corners, else none.
-use crate::places::past;
 use crate::places::position;
 use crate::places::proposal_at;
-use crate::places::put;
 use crate::places::record_at;
-use crate::places::slot;
-use crate::places::word;
+use case_draws::draws::past;
+use case_draws::draws::slot;
+use case_draws::places::put;
+use case_draws::places::word;
 use math::bits::bits_of;
 
 // The overlap of the boxes along y.

@@ -1,11 +1,11 @@
 // What a graph of capacity 64 records: its hash, and how many listed pairs touch. Nothing behind a mark of 0 or past a count.
 ghost use Prim.Native.Nat.{_≤_, _<_};
-use crate::hash::START;
-use crate::hash::add_word;
-use crate::hash::add_words;
 use crate::places::record_at;
-use crate::places::slot;
-use crate::places::word;
+use case_draws::draws::slot;
+use case_draws::hash::START;
+use case_draws::hash::add_word;
+use case_draws::hash::add_words;
+use case_draws::places::word;
 
 // A mark, and where it is 1 as many words behind it.
 fn add_optional(graph: &[u32], at: u32, count: u32, before: u32) -> u32 {

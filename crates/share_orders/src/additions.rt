@@ -2,9 +2,9 @@
 use crate::draws::all_but_one_in;
 use crate::draws::draw;
 use crate::draws::one_in;
-use crate::draws::slot;
 use crate::places::EVENTS;
 use crate::places::copy;
+use case_draws::draws::slot;
 use contact_graph::add::AddAnswer;
 use contact_graph::add::add;
 use contact_graph::call::Request;

@@ -1,13 +1,13 @@
 // The nine runs of a step, compared word by word with the first.
-use crate::line::print_count;
-use crate::line::print_name;
 use crate::places::ANSWER;
 use crate::places::CHANGES;
 use crate::places::DISTANCES;
 use crate::places::EVENTS;
 use crate::places::LENGTH;
-use crate::places::word;
 use crate::run::run;
+use case_draws::line::print_count;
+use case_draws::line::print_name;
+use case_draws::places::word;
 
 // The first word that differs from the first run's: the step, the share, the place in the row.
 pub struct Difference {

@@ -1,22 +1,11 @@
 // The draws that the lists are made of: by a key and the choice's number, through xorshift. The seed is 20263.
 ghost use Prim.Native.Nat.{_<_};
-
-// The lowest 32 bits.
-pub fn low(x: u64) -> u64
-    ensures { λ r. ⌜ r < 4294967296 ⌝ }
-{
-    x % 4294967296
-}
+use case_draws::draws::low;
 
 fn wide(x: u32) -> u64
     ensures { λ r. ⌜ r < 4294967296 ⌝ }
 {
     x as u64
-}
-
-// The j-th number from a base on.
-pub fn slot(base: u32, j: u32) -> u32 {
-    low(base as u64 + j as u64) as u32
 }
 
 // Left by 13, right by 17, left by 5.
@@ -30,11 +19,6 @@ pub fn draw(key: u32, choice: u32) -> u32 {
     let a = xorshift(low(wide(key) + wide(choice) * 2654435769 + 20263) as u32);
     let b = xorshift(low(wide(a) * 2246822519) as u32);
     xorshift(low(wide(b) * 3266489917) as u32)
-}
-
-// How far i is past a base.
-pub fn past(i: u32, base: u32) -> u32 {
-    if i < base { 0 } else { i - base }
 }
 
 // 1 where the draw is a multiple of n.

@@ -2,8 +2,8 @@
 ghost use Prim.Native.Nat.{_<_};
 use crate::draws::draw;
 use crate::draws::float;
-use crate::draws::slot;
-use crate::places::put;
+use case_draws::draws::slot;
+use case_draws::places::put;
 
 // Words 11, 13, 14 and 15 of a point.
 fn write_point(row: &mut [u32], at: u32, key: u32) {

@@ -5,22 +5,22 @@ use crate::differences::Difference;
 use crate::differences::print_difference;
 use crate::differences::run_all;
 use crate::draws::draw;
-use crate::draws::slot;
 use crate::impulses::write_impulses;
-use crate::line::print_count;
-use crate::line::print_end;
-use crate::line::print_name;
-use crate::line::print_number;
 use crate::places::ANSWER;
 use crate::places::LENGTH;
 use crate::places::copy;
 use crate::places::raise;
 use crate::places::raise_each;
-use crate::places::word;
 use crate::proposed::fill_proposals;
 use crate::world::change_world;
 use crate::world::fill_settings;
 use crate::world::fill_world;
+use case_draws::draws::slot;
+use case_draws::line::print_count;
+use case_draws::line::print_end;
+use case_draws::line::print_name;
+use case_draws::line::print_number;
+use case_draws::places::word;
 
 // Steps accepted, contacts updated, events, changes, contacts recycled, of a step that began with so many contacts.
 fn count_step(counts: &mut [u32], row: &[u32], listed: u32) {

@@ -6,7 +6,6 @@ mod additions;
 mod differences;
 mod draws;
 mod impulses;
-mod line;
 mod lists;
 mod orders;
 mod places;

@@ -2,10 +2,10 @@
 // reverse, and five with any number of workers in any order.
 ghost use Prim.Native.Nat.{_≤_, _<_};
 use crate::draws::draw;
-use crate::draws::slot;
-use crate::places::put;
 use crate::places::raise;
-use crate::places::word;
+use case_draws::draws::slot;
+use case_draws::places::put;
+use case_draws::places::word;
 
 fn workers(share: u32, key: u32) -> u32
     ensures { λ r. ⌜ (0 < r) × (r ≤ 8) ⌝ }

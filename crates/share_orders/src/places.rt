@@ -1,5 +1,7 @@
-// Words of a row, read and stored where there is such a place, and the places of what a step leaves.
-use crate::draws::slot;
+// The places of what a step leaves, and its words copied and raised.
+use case_draws::draws::slot;
+use case_draws::places::put;
+use case_draws::places::word;
 
 // What a step leaves, in one row: the graph at 0, events, changes, distances, and the answer: the refusal's number or 0, and the
 // numbers of events, changes and contacts recycled.
@@ -12,22 +14,6 @@ pub const DISTANCES: u32 = 4308;
 pub const ANSWER: u32 = 4316;
 
 pub const LENGTH: u32 = 4320;
-
-// 0 past the end.
-pub fn word(row: &[u32], at: u32) -> u32 {
-    if (at as usize) < row.len() {
-        row[at as usize]
-    } else {
-        0
-    }
-}
-
-// Nothing past the end.
-pub fn put(row: &mut [u32], at: u32, word: u32) {
-    if (at as usize) < row.len() {
-        row[at as usize] = word;
-    }
-}
 
 pub fn raise(row: &mut [u32], at: u32, by: u32) {
     put(row, at, slot(word(row, at), by));

@@ -2,10 +2,10 @@
 use crate::draws::all_but_one_in;
 use crate::draws::draw;
 use crate::draws::float;
-use crate::draws::past;
-use crate::draws::slot;
-use crate::places::put;
-use crate::places::word;
+use case_draws::draws::past;
+use case_draws::draws::slot;
+use case_draws::places::put;
+use case_draws::places::word;
 
 // Three floats each: along z, along y, between x and z, along -y.
 const NORMALS: [u32; 12] = [

@@ -1,6 +1,5 @@
 // A step by one of the nine shares, from the graph that the last step left to a row of what this one leaves.
 use crate::draws::draw;
-use crate::draws::slot;
 use crate::orders::bits_of;
 use crate::orders::shares_of;
 use crate::places::ANSWER;
@@ -8,6 +7,7 @@ use crate::places::CHANGES;
 use crate::places::DISTANCES;
 use crate::places::EVENTS;
 use crate::places::copy;
+use case_draws::draws::slot;
 use step::answer::StepAnswer;
 use step::step::step;
 

@@ -4,10 +4,10 @@ use crate::draws::all_but_one_in;
 use crate::draws::draw;
 use crate::draws::float;
 use crate::draws::one_in;
-use crate::draws::past;
-use crate::draws::slot;
-use crate::places::put;
-use crate::places::word;
+use case_draws::draws::past;
+use case_draws::draws::slot;
+use case_draws::places::put;
+use case_draws::places::word;
 use math::bits::bits_of;
 use math::bits::float_of;
 
