@@ -13,7 +13,7 @@ use lib.Seq.{getD-take, ext-getD}
 use Rattle.rows.specs.Slots.{upto}
 use Rattle.rules.specs.Graph.{newPair, newId, plainAdd}
 use Rattle.rules.specs.Numbers.{every}
-use Rattle.rules.specs.NumberLaws.{any-at}
+use Rattle.rule_laws.specs.NumberLaws.{any-at}
 use Rattle.rules.specs.Records.{Pair}
 use Rattle.words.specs.Words.{wordAt, floatWord}
 use Rattle.manifold_records.specs.Counts.{Counted}

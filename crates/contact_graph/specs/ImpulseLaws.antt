@@ -16,7 +16,7 @@ use Rattle.rows.specs.Slots.{upto}
 use Rattle.rows.specs.SlotLaws.{slots-apart}
 use Rattle.rules.specs.Limits.{bodies}
 use Rattle.rules.specs.Numbers.{any}
-use Rattle.rules.specs.NumberLaws.{any-same}
+use Rattle.rule_laws.specs.NumberLaws.{any-same}
 use Rattle.rules.specs.Stripped.{strippedPoint, strippedManifold, stripped}
 use Rattle.words.specs.Words.{wordAt}
 use Rattle.manifold_records.specs.Lists.{map-upto-same}

@@ -9,7 +9,7 @@ use borrow.Author.Tests.{leb-true}
 use lib.Dec.{eqb, ltb, leb}
 use Rattle.rules.specs.Limits.{storedPoints, pairManifolds, colliders, bodies}
 use Rattle.rules.specs.Numbers.{every}
-use Rattle.rules.specs.NumberLaws.{every-same}
+use Rattle.rule_laws.specs.NumberLaws.{every-same}
 use Rattle.words.specs.Words.{wordAt}
 use Rattle.contact_records.specs.Layout as record-place
 use Rattle.contact_range.specs.Range.{isMark, optionalFits, namesFit, marksFit, manifoldsFit, contactFits}

@@ -10,7 +10,7 @@ use lib.Dec.{T, eqb, ltb, leb}
 use lib.ListN.{length}
 use Rattle.rules.specs.Limits.{storedPoints, pairManifolds, colliders, bodies, mostContacts}
 use Rattle.rules.specs.Numbers.{every}
-use Rattle.rules.specs.NumberLaws.{every-at, any-at, any-found}
+use Rattle.rule_laws.specs.NumberLaws.{every-at, any-at, any-found}
 use Rattle.words.specs.Words.{wordAt}
 use Rattle.contact_records.specs.Layout as record-place
 use Rattle.contact_range.specs.Layout as place

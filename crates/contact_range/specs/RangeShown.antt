@@ -7,7 +7,7 @@ use mathlib.Core.Logic.{_⊎_, inl, inr}
 use borrow.Author.Tests.{lt-ltb, le-leb, eq-eqb, ne-eqb}
 use lib.Dec.{T, leb}
 use Rattle.rules.specs.Limits.{storedPoints, pairManifolds, colliders, bodies, mostContacts}
-use Rattle.rules.specs.NumberLaws.{every-all}
+use Rattle.rule_laws.specs.NumberLaws.{every-all}
 use Rattle.words.specs.Words.{wordAt}
 use Rattle.contact_records.specs.Layout as record-place
 use Rattle.contact_range.specs.Layout as place

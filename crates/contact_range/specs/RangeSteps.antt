@@ -11,7 +11,7 @@ use lib.Dec.{T, eqb, ltb, leb}
 use lib.ListN.{length, getD}
 use Rattle.rules.specs.Limits.{colliders}
 use Rattle.rules.specs.Numbers.{every, any}
-use Rattle.rules.specs.NumberLaws.{every-same}
+use Rattle.rule_laws.specs.NumberLaws.{every-same}
 use Rattle.data_structures.specs.BitVec.{bitOf, bitAt, marked}
 use Rattle.data_structures.specs.BitVecLaws.{bit-marked, length-marked}
 use Rattle.data_structures.specs.WordLaws.{bit-zero}

@@ -9,18 +9,18 @@ use lib.Dec.{T, eqb}
 use Rattle.math.specs.Constants.{zeroF}
 use Rattle.rules.specs.Graph.{Graph, emptyGraph, newPair, newId, plainAdd}
 use Rattle.rules.specs.Inputs.{Settings, Collider, Body, ProposedManifold, Inputs}
-use Rattle.rules.specs.Lookup.{find, first, mapped, find-append, find-map}
-use Rattle.rules.specs.Outcome.{names-kept}
+use Rattle.rule_laws.specs.Lookup.{find, first, mapped, find-append, find-map}
+use Rattle.rule_laws.specs.Outcome.{names-kept}
 use Rattle.rules.specs.Records.{Names, Cache, Pair}
-use Rattle.rules.specs.Replay.{Sound, sound-find, call-sound, empty-sound, passEnd, step-graph, bits, end-find, end-none}
+use Rattle.rule_laws.specs.Replay.{Sound, sound-find, call-sound, empty-sound, passEnd, step-graph, bits, end-find, end-none}
 use Rattle.rules.specs.Runs as rules
 use Rattle.rules.specs.Runs.{unlessRefused, plainCall, named, keepsGenerating, ProvisosAt, Provisos}
-use Rattle.rules.specs.Settling.{outcomeOf}
+use Rattle.rule_laws.specs.Settling.{outcomeOf}
 use Rattle.rules.specs.Sides.{overlap, interact, Side, sideOf}
 use Rattle.rules.specs.Recycling.{recycles}
 use Rattle.rules.specs.Status.{plainStep}
 use Rattle.rules.specs.Update.{apart, bodyOf, disjoint, recycledPair, enabled, renewedFlags, renewed, overlapping, updatedBetween, Updated, updated}
-use Rattle.rules.specs.Visit.{Verdict, vanishes, starts, stops, generates, recounts, stands, verdict, next}
+use Rattle.rule_laws.specs.Visit.{Verdict, vanishes, starts, stops, generates, recounts, stands, verdict, next}
 use Rattle.contact_graph.specs.Calls.{optional, additionOf}
 use Rattle.contact_graph.specs.declared.call.Request.{Request}
 use Rattle.step.specs.Step.{inputs}

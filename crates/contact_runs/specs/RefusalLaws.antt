@@ -7,7 +7,7 @@ use lib.Dec.{eqb}
 use lib.ListN.{length}
 use Rattle.rows.specs.Slots.{upto}
 use Rattle.rules.specs.Numbers.{every, any}
-use Rattle.rules.specs.NumberLaws.{every-same}
+use Rattle.rule_laws.specs.NumberLaws.{every-same}
 use Rattle.rules.specs.Records.{Pair}
 use Rattle.manifold_records.specs.Lists.{length-map-upto}
 use Rattle.contact_records.specs.Recorded.{namesAt, pairAt}

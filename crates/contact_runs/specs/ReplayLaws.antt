@@ -8,10 +8,10 @@ use mathlib.Core.Option.{none}
 use borrow.Author.Tests.{eqb-true, eqb-false}
 use lib.Dec.{eqb, eqb·suc-zero}
 use lib.ListN.{length}
-use Rattle.rules.specs.Answers.{answers-replay-holds}
+use Rattle.rule_laws.specs.Answers.{answers-replay-holds}
 use Rattle.rules.specs.Graph.{Graph, emptyGraph, plainAdd, newId}
 use Rattle.rules.specs.Records.{Pair}
-use Rattle.rules.specs.Replay.{Sound, empty-sound, sound-room, call-sound}
+use Rattle.rule_laws.specs.Replay.{Sound, empty-sound, sound-room, call-sound}
 use Rattle.rules.specs.Runs.{Answer, added, stepped, After, unlessRefused, plainCall, plainRun, plainGraph, Held, replay, replayAnswer, replayAnswers, heldIn, Provisos, RoomAt, Room}
 use Rattle.rules.specs.Status.{Change, plainStep}
 use Rattle.contact_graph.specs.AddedGraph.{passed}

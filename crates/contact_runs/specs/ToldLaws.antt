@@ -18,7 +18,7 @@ use Rattle.rows.specs.Rows.{put, each}
 use Rattle.rows.specs.Slots.{upto}
 use Rattle.rules.specs.Records.{Names, Pair}
 use Rattle.rules.specs.Status.{Change, start, stop, count, stopIf, countOf}
-use Rattle.rules.specs.Visit.{Verdict, vanishes, starts, stops, generates, recounts, stands, verdict, say}
+use Rattle.rule_laws.specs.Visit.{Verdict, vanishes, starts, stops, generates, recounts, stands, verdict, say}
 use Rattle.words.specs.Words.{wordAt}
 use Rattle.manifold_records.specs.Lists.{map-upto-is}
 use Rattle.contact_records.specs.Ints.{int-back, int-fits}

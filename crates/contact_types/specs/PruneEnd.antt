@@ -7,9 +7,9 @@ use mathlib.Core.Option.{Option, none, some}
 use lib.Dec.{T}
 use lib.Ieee.Positive.{above}
 use Rattle.math.specs.declared.vec.Vec3.{Vec3}
-use Rattle.rules.specs.NumberLaws.{Found}
+use Rattle.rule_laws.specs.NumberLaws.{Found}
 use Rattle.rules.specs.Pruning as rules
-use Rattle.rules.specs.PruningLaws.{Deep, projected-deep, point1-exists, point1-below, point2-exists, point2-below, point3-below, point4-below, kept-same}
+use Rattle.rule_laws.specs.PruningLaws.{Deep, projected-deep, point1-exists, point1-below, point2-exists, point2-below, point3-below, point4-below, kept-same}
 use Rattle.contact_types.specs.Pruned.{pointBy, projectedBy, AllProjected, numbered, listedNumber, SidesFound}
 use Rattle.contact_types.specs.PruneSteps.{listed-numbered}
 use Rattle.contact_types.specs.declared.pruning.PrunePoint.{PrunePoint}

@@ -9,7 +9,7 @@ use lib.ListN.{length, set}
 use lib.Seq.{getD-set-same, getD-set-other}
 use Rattle.math.specs.declared.vec.Vec3.{Vec3}
 use Rattle.rules.specs.Pruning as rules
-use Rattle.rules.specs.PruningLaws.{kept-same}
+use Rattle.rule_laws.specs.PruningLaws.{kept-same}
 use Rattle.contact_types.specs.Pruned.{prunePointOf, pointBy}
 use Rattle.contact_types.specs.Prune.{prunePointAt, LoadedPoints}
 use Rattle.contact_types.specs.declared.pruning.PrunePoint.{PrunePoint}

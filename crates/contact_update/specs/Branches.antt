@@ -8,7 +8,7 @@ use borrow.Author.Tests.{ltb-true, not-true, not-false}
 use lib.Dec.{ltb, eqb}
 use Rattle.rules.specs.Inputs.{Settings, Collider, Body, ProposedManifold}
 use Rattle.rules.specs.Limits.{colliders, bodies}
-use Rattle.rules.specs.NumberLaws.{every-at}
+use Rattle.rule_laws.specs.NumberLaws.{every-at}
 use Rattle.rules.specs.Records.{Cache, Pair}
 use Rattle.rules.specs.Recycling.{recycles}
 use Rattle.rules.specs.Sides.{Side, overlap, interact, sideOf}

@@ -16,7 +16,7 @@ use Rattle.rows.specs.Slots.{upto, Keeps, updateAt}
 use Rattle.rows.specs.SlotLaws.{length-updateAt, part-updateAt-same, getD-updateAt-apart, updateAt-comm}
 use Rattle.rules.specs.Inputs.{Settings}
 use Rattle.rules.specs.Numbers.{any}
-use Rattle.rules.specs.NumberLaws.{any-same}
+use Rattle.rule_laws.specs.NumberLaws.{any-same}
 use Rattle.rules.specs.Update.{Updated, updatedBetween, updated}
 use Rattle.words.specs.Words.{wordAt}
 use Rattle.collider.specs.Recorded.{colliderAt, bodyAt}

@@ -14,7 +14,7 @@ use Rattle.rows.specs.Laws.{put-next, put-put}
 use Rattle.rows.specs.Rows.{put, each}
 use Rattle.rows.specs.Slots.{upto}
 use Rattle.rules.specs.Matching.{byNumber, matches, withImpulses, matchedPoint, withPoints, matchContacts, matchAll}
-use Rattle.rules.specs.MatchingLaws.{NoneBefore, none-before-next, matched-found, matched-none}
+use Rattle.rule_laws.specs.MatchingLaws.{NoneBefore, none-before-next, matched-found, matched-none}
 use Rattle.rules.specs.Records.{Point, Manifold}
 use Rattle.words.specs.Words.{wordAt, floatAt, floatWord}
 use Rattle.manifold_records.specs.Lengths.{length-point, length-manifold}

@@ -16,7 +16,7 @@ use Rattle.rows.specs.Slots.{AllBelow}
 use Rattle.rules.specs.Filtering.{noPoint, prunePoint, pruned}
 use Rattle.rules.specs.Pruning as rules
 use Rattle.rules.specs.Records.{Point}
-use Rattle.rules.specs.PruningLaws.{point1-below, point2-below, point3-below, point4-below, kept-same}
+use Rattle.rule_laws.specs.PruningLaws.{point1-below, point2-below, point3-below, point4-below, kept-same}
 use Rattle.contact_types.specs.Pruned.{prunePointOf, pointBy, keptOf}
 use Rattle.contact_types.specs.Views.{pointOf}
 use Rattle.contact_types.specs.declared.contact_point.ContactPoint.{ContactPoint}

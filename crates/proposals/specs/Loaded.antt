@@ -9,7 +9,7 @@ use lib.Ieee.{Float}
 use Rattle.math.specs.declared.vec.Vec3.{Vec3}
 use Rattle.rules.specs.Limits.{proposedPoints, pairManifolds}
 use Rattle.rules.specs.Numbers.{every}
-use Rattle.rules.specs.NumberLaws.{every-at}
+use Rattle.rule_laws.specs.NumberLaws.{every-at}
 use Rattle.words.specs.Words.{wordAt, floatAt, vec3At}
 use Rattle.proposals.specs.Layout as place
 use Rattle.proposals.specs.Range.{proposalFits, Proposed}

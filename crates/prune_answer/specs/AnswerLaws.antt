@@ -15,7 +15,7 @@ use Rattle.rows.specs.Laws.{length-put, getD-put}
 use Rattle.words.specs.Words.{vec3At}
 use Rattle.math.specs.declared.vec.Vec3.{Vec3}
 use Rattle.rules.specs.Pruning as rules
-use Rattle.rules.specs.PruningLaws.{point1-below, point2-below, point3-below, point4-below, kept-same}
+use Rattle.rule_laws.specs.PruningLaws.{point1-below, point2-below, point3-below, point4-below, kept-same}
 use Rattle.contact_types.specs.Prune.{prunePointAt, refused, keeps, pruneAnswer}
 use Rattle.prune_listing.specs.Listing.{Listing}
 use Rattle.prune_listing.specs.ShapeLaws.{Fours}

@@ -9,7 +9,7 @@ use mathlib.Core.List.{List}
 use borrow.Author.Tests.{eq-eqb, ne-eqb, eqb-true, eqb-false, lt-ltb, le-ltb, le-leb, lt-leb, not-true, not-false}
 use lib.Dec.{eqb, ltb, leb}
 use Rattle.rules.specs.Numbers.{every}
-use Rattle.rules.specs.NumberLaws.{every-at, every-all}
+use Rattle.rule_laws.specs.NumberLaws.{every-at, every-all}
 use Rattle.contact_range.specs.Checked.{Checked}
 use Rattle.contact_range.specs.Range.{stands}
 use Rattle.contact_range.specs.RangeLaws.{first-of, rest-of, stands-found, listed-once}

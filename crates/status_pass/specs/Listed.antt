@@ -7,7 +7,7 @@ use lib.ListN.{length}
 use Rattle.rows.specs.Rows.{put, each}
 use Rattle.rules.specs.Records.{Names}
 use Rattle.rules.specs.Status.{Event, started, ended, Change, start, stop, count}
-use Rattle.rules.specs.Visit.{say, hear}
+use Rattle.rule_laws.specs.Visit.{say, hear}
 use Rattle.words.specs.Words.{wordAt}
 use Rattle.contact_records.specs.Layout as record-place
 use Rattle.contact_records.specs.Recorded.{intOf, namesAt, pairAt}

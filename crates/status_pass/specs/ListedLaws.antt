@@ -11,8 +11,8 @@ use lib.IntN.{ℤ}
 use Rattle.rows.specs.Rows.{put}
 use Rattle.rules.specs.Records.{Names}
 use Rattle.rules.specs.Status.{Event, started, ended, eventIf, Change, start, stop, count, stopIf, countOf}
-use Rattle.rules.specs.Passing.{naming}
-use Rattle.rules.specs.Visit.{say, hear}
+use Rattle.rule_laws.specs.Passing.{naming}
+use Rattle.rule_laws.specs.Visit.{say, hear}
 use Rattle.words.specs.Words.{wordAt}
 use Rattle.contact_records.specs.Ints.{word-back}
 use Rattle.contact_records.specs.Recorded.{markAt, intOf, flagsAt, edgeAt, namesAt, pairAt}

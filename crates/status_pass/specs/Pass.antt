@@ -8,7 +8,7 @@ use Rattle.rows.specs.Rows.{part, put}
 use Rattle.rows.specs.Slots.{Distinct}
 use Rattle.rules.specs.Records.{Pair}
 use Rattle.rules.specs.Status.{Event, Change, Pass}
-use Rattle.rules.specs.Visit.{Verdict, vanishes, starts, stops, generates, recounts, stands, verdict, say, hear}
+use Rattle.rule_laws.specs.Visit.{Verdict, vanishes, starts, stops, generates, recounts, stands, verdict, say, hear}
 use Rattle.contact_records.specs.Layout as record-place
 use Rattle.contact_records.specs.Recorded.{pairAt}
 use Rattle.contact_graph.specs.Calls.{removedWords}

@@ -18,9 +18,9 @@ use Rattle.rows.specs.Laws.{length-put, length-part, getD-part, part-put, getD-
 use Rattle.rules.specs.Graph.{Graph, removedAt}
 use Rattle.rules.specs.Records.{Pair, Names}
 use Rattle.rules.specs.Numbers.{any}
-use Rattle.rules.specs.NumberLaws.{any-same}
+use Rattle.rule_laws.specs.NumberLaws.{any-same}
 use Rattle.rules.specs.Status.{Event, Change, Pass, eventIf, stopIf, countOf, written, visitAt, visitFound, visit, visitAll}
-use Rattle.rules.specs.Visit.{Verdict, vanishes, starts, stops, generates, recounts, stands, verdict, next, say, hear, visitAs, visitAt-as}
+use Rattle.rule_laws.specs.Visit.{Verdict, vanishes, starts, stops, generates, recounts, stands, verdict, next, say, hear, visitAs, visitAt-as}
 use Rattle.words.specs.Words.{wordAt}
 use Rattle.manifold_records.specs.Counts.{Counted}
 use Rattle.manifold_records.specs.Lists.{map-upto-same, getD-map-upto, length-map-upto}

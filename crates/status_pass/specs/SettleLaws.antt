@@ -15,7 +15,7 @@ use Rattle.rows.specs.Slots.{upto}
 use Rattle.rows.specs.Laws.{length-put, getD-put, getD-put-apart}
 use Rattle.rules.specs.Limits.{bodies}
 use Rattle.rules.specs.Status.{withMarks, marks}
-use Rattle.rules.specs.Visit.{Verdict, vanishes, starts, stops, generates, recounts, stands, next}
+use Rattle.rule_laws.specs.Visit.{Verdict, vanishes, starts, stops, generates, recounts, stands, next}
 use Rattle.words.specs.Words.{wordAt}
 use Rattle.manifold_records.specs.Lists.{map-upto-same}
 use Rattle.manifold_records.specs.Recorded.{pointsAt, manifoldAt, manifoldsAt}

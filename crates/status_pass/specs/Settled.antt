@@ -2,7 +2,7 @@
 use Prim.Native.Nat.{ℕ}
 use mathlib.Core.List.{List, [], _∷_}
 use Rattle.rows.specs.Rows.{put}
-use Rattle.rules.specs.Visit.{Verdict, vanishes, starts, stops, generates, recounts, stands}
+use Rattle.rule_laws.specs.Visit.{Verdict, vanishes, starts, stops, generates, recounts, stands}
 use Rattle.contact_records.specs.Layout as place
 
 -- the edge's TOUCHING, and the pair's STARTED_TOUCHING, STOPPED_TOUCHING and STARTED_GENERATING_CONSTRAINTS

@@ -13,8 +13,8 @@ use Rattle.rows.specs.Laws.{length-put, length-part, put-next, put-lent}
 use Rattle.rows.specs.EachLaws.{each-append, length-each}
 use Rattle.rules.specs.Records.{Pair, Names}
 use Rattle.rules.specs.Status.{Event, started, ended, Change, start, stop, count}
-use Rattle.rules.specs.Visit as rules
-use Rattle.rules.specs.Visit.{verdict, say, hear}
+use Rattle.rule_laws.specs.Visit as rules
+use Rattle.rule_laws.specs.Visit.{verdict, say, hear}
 use Rattle.contact_records.specs.Apart.{pair-part}
 use Rattle.contact_records.specs.Layout as record-place
 use Rattle.contact_records.specs.Recorded.{pairAt}

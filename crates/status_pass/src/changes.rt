@@ -2,7 +2,7 @@
 ghost use mathlib.Core.Path.{_≡_};
 ghost use Prim.Native.Nat.{_+_, _*_, _≤_};
 ghost use lib.ListN.{length};
-ghost use Rattle.rules.specs.Visit.{say};
+ghost use Rattle.rule_laws.specs.Visit.{say};
 ghost use Rattle.contact_records.specs.Layout.{contactSize};
 ghost use Rattle.contact_records.specs.Recorded.{pairAt};
 ghost use Rattle.status_pass.specs.Verdicts.{plainVerdict};

@@ -4,7 +4,7 @@ ghost use mathlib.Core.Bool.{cond};
 ghost use Prim.Native.Nat.{_+_, _*_, _≤_};
 ghost use lib.ListN.{length};
 ghost use Rattle.words.specs.Words.{wordAt};
-ghost use Rattle.rules.specs.Visit.{hear};
+ghost use Rattle.rule_laws.specs.Visit.{hear};
 ghost use Rattle.contact_records.specs.Layout.{contactSize};
 ghost use Rattle.contact_records.specs.Recorded.{markAt, namesAt, pairAt};
 ghost use Rattle.contact_records.specs.Written.{markWord};

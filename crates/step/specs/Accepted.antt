@@ -7,7 +7,7 @@ use mathlib.Core.List.{List}
 use borrow.Author.Tests.{eqb-true}
 use lib.ListN.{length}
 use Rattle.rows.specs.Laws.{getD-part}
-use Rattle.rules.specs.NumberLaws.{every-at}
+use Rattle.rule_laws.specs.NumberLaws.{every-at}
 use Rattle.words.specs.Words.{wordAt}
 use Rattle.collider.specs.Layout.{settingsLength, collidersLength, bodiesLength}
 use Rattle.collider.specs.Range.{settingsFit, collidersFit, bodiesFit}

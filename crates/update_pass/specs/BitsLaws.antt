@@ -10,7 +10,7 @@ use lib.Dec.{eqb, ltb, leb}
 use lib.ListN.{length, getD}
 use Rattle.rows.specs.Slots.{upto, Listed, Distinct, AllBelow, SameMembers}
 use Rattle.rules.specs.Numbers.{every}
-use Rattle.rules.specs.NumberLaws.{every-at}
+use Rattle.rule_laws.specs.NumberLaws.{every-at}
 use Rattle.rules.specs.Update.{Updated}
 use Rattle.data_structures.specs.BitVec.{blocksOf, bitOf, bitAt, marked, numbersWith, setBits}
 use Rattle.data_structures.specs.BitVecLaws.{blocks-hold, length-joined, bit-joined, bit-marked}

@@ -8,7 +8,7 @@ use lib.Dec.{eqb}
 use Rattle.math.specs.Constants.{zeroF}
 use Rattle.rows.specs.Slots.{upto}
 use Rattle.rules.specs.Inputs.{Settings, Inputs}
-use Rattle.rules.specs.Outcome.{names-kept}
+use Rattle.rule_laws.specs.Outcome.{names-kept}
 use Rattle.rules.specs.Records.{Names}
 use Rattle.rules.specs.Status.{bitOf, standingBits, distanceOf, recycledCount}
 use Rattle.rules.specs.Update.{isRecycled, Updated, updated}

@@ -13,7 +13,7 @@ use Rattle.rows.specs.Slots.{upto, Listed, Distinct}
 use Rattle.rows.specs.SlotLaws.{listed-tail}
 use Rattle.rules.specs.Graph.{Graph}
 use Rattle.rules.specs.Inputs.{Settings, Inputs}
-use Rattle.rules.specs.Outcome.{names-kept}
+use Rattle.rule_laws.specs.Outcome.{names-kept}
 use Rattle.rules.specs.Records.{Names, Pair}
 use Rattle.rules.specs.Update.{updated}
 use Rattle.manifold_records.specs.Lists.{map-upto-same}

@@ -4,7 +4,7 @@ use mathlib.Core.Path.{_≡_, refl, sym, _∙_}
 use Prim.Native.Nat.{_≤_, _*_, _-_}
 use borrow.Author.Tests.{not-true, not-false}
 use borrow.Author.Needs.{needs}
-use Rattle.rules.specs.NumberLaws.{every-next, every-fails}
+use Rattle.rule_laws.specs.NumberLaws.{every-next, every-fails}
 use Rattle.rules.specs.Numbers.{every}
 use Rattle.rules.specs.Limits.{colliders}
 use Rattle.collider.specs.Range.{colliderFits, collidersFit}

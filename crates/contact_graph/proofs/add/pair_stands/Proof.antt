@@ -8,7 +8,7 @@ use native.Mathlib.Omega.{arith}
 use borrow.Author.Needs.{needs}
 use lib.ListN.{length}
 use Rattle.rules.specs.Numbers.{any}
-use Rattle.rules.specs.NumberLaws.{any-next, any-at, any-none}
+use Rattle.rule_laws.specs.NumberLaws.{any-next, any-at, any-none}
 use Rattle.words.specs.Words.{wordAt}
 use Rattle.contact_graph.specs.Calls.{pairStands}
 use Rattle.contact_range.specs.Range.{sameColliders}

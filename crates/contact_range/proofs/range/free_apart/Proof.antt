@@ -5,7 +5,7 @@ use mathlib.Core.Bool.{Bool, true, not}
 use Prim.Native.Nat.{ℕ, _≤_, _-_}
 use native.Mathlib.Omega.{arith}
 use Rattle.rules.specs.Numbers.{every}
-use Rattle.rules.specs.NumberLaws.{every-next, every-fails}
+use Rattle.rule_laws.specs.NumberLaws.{every-next, every-fails}
 use Rattle.contact_range.specs.Recorded.{freeAt, freeCount}
 use Rattle.contact_range.specs.Range.{stands, freeApart}
 use Rattle.contact_range.specs.RangeLaws.{freed-at}

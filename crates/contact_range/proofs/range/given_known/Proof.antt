@@ -4,7 +4,7 @@ use mathlib.Core.List.{List}
 use mathlib.Core.Bool.{Bool, true, _||_}
 use Prim.Native.Nat.{ℕ, _≤_, _-_}
 use Rattle.rules.specs.Numbers.{every}
-use Rattle.rules.specs.NumberLaws.{every-next, every-fails}
+use Rattle.rule_laws.specs.NumberLaws.{every-next, every-fails}
 use Rattle.contact_range.specs.Recorded.{givenOf}
 use Rattle.contact_range.specs.Range.{stands, isFree, givenKnown}
 use Rattle.contact_range.specs.RangeSteps.{refused, passed, every-none, every-done}

@@ -6,7 +6,7 @@ use Prim.Native.Nat.{ℕ, _≤_, _-_}
 use borrow.Author.Tests.{lt-ltb, le-ltb}
 use lib.Dec.{ltb}
 use Rattle.rules.specs.Numbers.{every}
-use Rattle.rules.specs.NumberLaws.{every-next, every-fails}
+use Rattle.rule_laws.specs.NumberLaws.{every-next, every-fails}
 use Rattle.contact_range.specs.Recorded.{listedAt, givenOf, listedCount}
 use Rattle.contact_range.specs.Range.{listedGiven}
 use Rattle.contact_range.specs.RangeSteps.{every-none, every-done}

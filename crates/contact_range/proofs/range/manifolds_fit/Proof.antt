@@ -7,7 +7,7 @@ use borrow.Author.Tests.{le-leb, lt-leb}
 use lib.Dec.{leb}
 use Rattle.words.specs.Words.{wordAt}
 use Rattle.rules.specs.Numbers.{every}
-use Rattle.rules.specs.NumberLaws.{every-next, every-fails}
+use Rattle.rule_laws.specs.NumberLaws.{every-next, every-fails}
 use Rattle.contact_range.specs.RangeSteps.{within, above, every-none, every-done}
 use Rattle.contact_range.specs.Range.{manifoldsFit}
 use borrow.Author.Needs.{needs}

@@ -6,7 +6,7 @@ use Prim.Native.Nat.{ℕ, _≤_, _+_, _-_}
 use lib.Dec.{ltb}
 use Rattle.words.specs.Words.{wordAt}
 use Rattle.rules.specs.Numbers.{every}
-use Rattle.rules.specs.NumberLaws.{every-next, every-fails}
+use Rattle.rule_laws.specs.NumberLaws.{every-next, every-fails}
 use Rattle.contact_range.specs.RangeSteps.{below, not-below, every-none, every-done}
 use Rattle.contact_range.specs.Range.{isMark, marksFit}
 use borrow.Author.Needs.{needs}

@@ -7,7 +7,7 @@ use native.Mathlib.Omega.{arith}
 use borrow.Author.Tests.{eq-eqb, ne-eqb}
 use lib.Dec.{eqb}
 use Rattle.rules.specs.Numbers.{every}
-use Rattle.rules.specs.NumberLaws.{every-next, every-fails}
+use Rattle.rule_laws.specs.NumberLaws.{every-next, every-fails}
 use Rattle.contact_range.specs.Recorded.{listedAt, listedCount}
 use Rattle.contact_range.specs.Range.{namesBack}
 use Rattle.contact_range.specs.RangeLaws.{indexAt}

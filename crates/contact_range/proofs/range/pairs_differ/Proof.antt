@@ -6,7 +6,7 @@ use Prim.Native.Nat.{ℕ, _≤_, _-_}
 use native.Mathlib.Omega.{arith}
 use lib.ListN.{length}
 use Rattle.rules.specs.Numbers.{every}
-use Rattle.rules.specs.NumberLaws.{every-next, every-fails}
+use Rattle.rule_laws.specs.NumberLaws.{every-next, every-fails}
 use Rattle.contact_range.specs.Recorded.{listedCount}
 use Rattle.contact_range.specs.Range.{samePair, pairsOnce}
 use Rattle.contact_range.specs.RangeSteps.{Marked, placeNumber, below-at, colliders-read, number-read, place-below, pair-seen, marked-none, marks-next, marks-size, every-none, every-done}

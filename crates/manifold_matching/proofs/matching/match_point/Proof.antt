@@ -4,7 +4,7 @@ use Prim.Native.Nat.{_≤_, _-_}
 use native.Mathlib.Omega.{arith}
 use borrow.Author.Needs.{needs}
 use lib.ListN.{length}
-use Rattle.rules.specs.MatchingLaws.{none-before-first}
+use Rattle.rule_laws.specs.MatchingLaws.{none-before-first}
 use Rattle.manifold_matching.specs.MatchingLaws.{Unmatched, unmatched-next, matched-at, unmatched-all}
 use Rattle.manifold_matching.proofs.matching.match_point.Statement.{statement}
 use Rattle.manifold_matching.proofs.matching.match_point.Tie as tie

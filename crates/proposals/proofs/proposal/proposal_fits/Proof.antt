@@ -8,7 +8,7 @@ use borrow.Author.Tests.{le-leb, lt-leb}
 use lib.Dec.{leb}
 use Rattle.words.specs.Words.{wordAt}
 use Rattle.rules.specs.Numbers.{every}
-use Rattle.rules.specs.NumberLaws.{every-next, every-fails}
+use Rattle.rule_laws.specs.NumberLaws.{every-next, every-fails}
 use Rattle.proposals.specs.Range.{proposalFits}
 use borrow.Author.Needs.{needs}
 use Rattle.proposals.proofs.proposal.proposal_fits.Statement.{statement}

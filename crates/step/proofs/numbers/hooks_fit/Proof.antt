@@ -5,7 +5,7 @@ use mathlib.Core.List.{List}
 use Prim.Native.Nat.{ℕ, _-_, _*_, _≤_, _<_}
 use native.Mathlib.Omega.{arith}
 use Rattle.rules.specs.Numbers.{every}
-use Rattle.rules.specs.NumberLaws.{every-next, every-fails}
+use Rattle.rule_laws.specs.NumberLaws.{every-next, every-fails}
 use Rattle.contact_range.specs.RangeSteps.{refused, passed, every-none}
 use Rattle.contact_range.specs.Recorded.{listedAt}
 use Rattle.proposals.specs.Range.{hookFits}

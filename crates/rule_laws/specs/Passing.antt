@@ -9,12 +9,12 @@ use native.Mathlib.Omega.{arith}
 use lib.Dec.{eqb}
 use lib.ListN.{length}
 use lib.IntN.{ℤ}
 use Rattle.rules.specs.Records.{Pair, Names}
 use Rattle.rules.specs.Update.{Updated}
 use Rattle.rules.specs.Status.{Pass, Change, start, stop, count, stopIf, countOf, visit, visitAll, bitOf, standingBits}
 use Rattle.rules.specs.Runs.{Held, holding, raisedBy, manifoldsOf, replayOne, replay}
-use Rattle.rules.specs.Lookup.{Test, same, other, test, tally, ids, find, find-id, eqb-same, eqb-other}
-use Rattle.rules.specs.Visit.{Verdict, vanishes, starts, stops, generates, recounts, stands, say, saying, becoming, verdict, Effect, visited}
+use Rattle.rule_laws.specs.Lookup.{Test, same, other, test, tally, ids, find, find-id, eqb-same, eqb-other}
+use Rattle.rule_laws.specs.Visit.{Verdict, vanishes, starts, stops, generates, recounts, stands, say, saying, becoming, verdict, Effect, visited}
 
 -- ---- replaying
 

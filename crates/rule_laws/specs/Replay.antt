@@ -11,19 +11,19 @@ use lib.Dec.{eqb, T, eqb·suc-zero}
 use lib.ListN.{length, getD, take, length-append, length-map}
 use lib.Seq.{length-take-le}
 use lib.IntN.{ℤ, pos}
 use Rattle.rules.specs.Inputs.{Inputs}
 use Rattle.rules.specs.Records.{Pair, Names, Manifold}
 use Rattle.rules.specs.Matching.{withPoints}
 use Rattle.rules.specs.Update.{Updated, updated}
 use Rattle.rules.specs.Graph.{Graph, emptyGraph, Addition, plainAdd, newId}
 use Rattle.rules.specs.Status.{Pass, Change, bitOf, standingBits, visitAll, plainStep}
 use Rattle.rules.specs.Runs.{Held, Impulses, Entry, addition, stepping, impulses, Answer, added, stepped, plainCall, plainGraph, unlessRefused, withPairs, manifoldsOf, replay, afterUpdates, replayEntry, replayRun, namesBoth, keepsGenerating, heldIn, ProvisosAt, Provisos, RoomAt, Room, ReplayHolds}
 use Rattle.rules.specs.Stripped.{strippedPoint, stripped}
-use Rattle.rules.specs.Lookup.{Test, same, other, test, tally, ids, find, first, mapped, find-id, find-mem, find-counted, mem-counted, mem-find, find-append, find-map, ids-map, tally-ids-append, eqb-other}
-use Rattle.rules.specs.Visit.{saying, becoming, tally-one}
-use Rattle.rules.specs.Passing.{Passed, passed, bits-in, bits-above}
-use Rattle.rules.specs.Outcome.{Brief, brief, counting, outcome, names-kept}
-use Rattle.rules.specs.Settling.{Quiet, Quieted, heldB, verdictB, sayB, quieted, settled, outcomeOf, outcomeOf-brief, saying-brief}
+use Rattle.rule_laws.specs.Lookup.{Test, same, other, test, tally, ids, find, first, mapped, find-id, find-mem, find-counted, mem-counted, mem-find, find-append, find-map, ids-map, tally-ids-append, eqb-other}
+use Rattle.rule_laws.specs.Visit.{saying, becoming, tally-one}
+use Rattle.rule_laws.specs.Passing.{Passed, passed, bits-in, bits-above}
+use Rattle.rule_laws.specs.Outcome.{Brief, brief, counting, outcome, names-kept}
+use Rattle.rule_laws.specs.Settling.{Quiet, Quieted, heldB, verdictB, sayB, quieted, settled, outcomeOf, outcomeOf-brief, saying-brief}
 
 -- ---- a graph between calls
 

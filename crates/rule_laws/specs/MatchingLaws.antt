@@ -10,10 +10,10 @@ use mathlib.Core.Option.{Option, none, some}
 use borrow.Author.Tests.{eqb-true, eq-eqb}
 use lib.ListN.{length, getD}
 use lib.Ieee.{Float}
 use Rattle.rules.specs.Numbers.{first}
-use Rattle.rules.specs.NumberLaws.{first-next, first-found}
+use Rattle.rule_laws.specs.NumberLaws.{first-next, first-found}
 use Rattle.rules.specs.Records.{Point}
 use Rattle.rules.specs.Matching.{FeatureRule, byNumber, anchorsMatch, matches, source, withImpulses, taking, matchedPoint}
 
 -- ---- the search for the old point, step by step
 module _ (same : FeatureRule) (square : Float) (olds : List Point) (new : Point) where

@@ -8,14 +8,14 @@ use mathlib.Core.Option.{Option, none, some}
 use lib.Dec.{eqb, T}
 use lib.ListN.{length}
 use lib.IntN.{ℤ, pos, negsuc, _+ℤ_, _-ℤ_, -ℤ-+ℤ-cancel, +ℤ-comm, +ℤ-idl}
 use Rattle.rules.specs.Records.{Pair, Names}
 use Rattle.rules.specs.Update.{Updated, nonZero}
 use Rattle.rules.specs.Status.{Change, start, count, stopIf, countOf}
 use Rattle.rules.specs.Runs.{Held, raisedBy, manifoldsOf, replayOne, replay, named}
-use Rattle.rules.specs.Lookup.{mapped}
-use Rattle.rules.specs.Visit.{Verdict, vanishes, starts, stops, generates, recounts, stands, pick, verdict, next, say, becoming, saying}
-use Rattle.rules.specs.Passing.{naming, holding-same}
-use Rattle.rules.specs.Outcome.{Brief, brief, parted, anew, anewBit, Outcome, skipped, parts, recycled, renews}
+use Rattle.rule_laws.specs.Lookup.{mapped}
+use Rattle.rule_laws.specs.Visit.{Verdict, vanishes, starts, stops, generates, recounts, stands, pick, verdict, next, say, becoming, saying}
+use Rattle.rule_laws.specs.Passing.{naming, holding-same}
+use Rattle.rule_laws.specs.Outcome.{Brief, brief, parted, anew, anewBit, Outcome, skipped, parts, recycled, renews}
 
 -- ---- the visit, on briefs
 

@@ -9,18 +9,18 @@ use native.Mathlib.Omega.{arith}
 use lib.Dec.{eqb, T}
 use lib.ListN.{length}
 use lib.IntN.{ℤ, pos}
 use Rattle.rules.specs.Inputs.{Inputs}
 use Rattle.rules.specs.Records.{Pair, Names}
 use Rattle.rules.specs.Update.{updated}
 use Rattle.rules.specs.Graph.{Graph, emptyGraph, plainAdd, newId}
 use Rattle.rules.specs.Status.{Change, start, stopIf, countOf, plainStep}
 use Rattle.rules.specs.Runs.{Held, holding, manifoldsOf, replayOne, replay, afterUpdates, Entry, addition, stepping, impulses, Answer, added, stepped, silent, After, unlessRefused, plainCall, plainRun, plainGraph, replayAnswer, replayAnswers, namesBoth, keepsGenerating, ProvisosAt, Provisos, Room, AnswersReplayHolds}
-use Rattle.rules.specs.Lookup.{find, mapped, find-id, find-map}
-use Rattle.rules.specs.Visit.{Verdict, vanishes, starts, stops, generates, recounts, stands, verdict, next, say, saying}
-use Rattle.rules.specs.Passing.{naming}
-use Rattle.rules.specs.Outcome.{names-kept}
-use Rattle.rules.specs.Settling.{outcomeOf}
-use Rattle.rules.specs.Replay.{Sound, Holds, heldIn-at, countAt, manifoldsOf-find, passEnd, step-graph, step-changes, pass, bits, end-find, end-heard, step-holds, holds-added, write-holds, call-sound, empty-sound, empty-holds}
+use Rattle.rule_laws.specs.Lookup.{find, mapped, find-id, find-map}
+use Rattle.rule_laws.specs.Visit.{Verdict, vanishes, starts, stops, generates, recounts, stands, verdict, next, say, saying}
+use Rattle.rule_laws.specs.Passing.{naming}
+use Rattle.rule_laws.specs.Outcome.{names-kept}
+use Rattle.rule_laws.specs.Settling.{outcomeOf}
+use Rattle.rule_laws.specs.Replay.{Sound, Holds, heldIn-at, countAt, manifoldsOf-find, passEnd, step-graph, step-changes, pass, bits, end-find, end-heard, step-holds, holds-added, write-holds, call-sound, empty-sound, empty-holds}
 
 -- ---- which list the numbers are read in
 

@@ -10,11 +10,11 @@ use lib.Dec.{eqb}
 use lib.ListN.{length, set, length-append, length-set}
 use lib.Seq.{set-append-seam, getD-append-seam}
 use lib.IntN.{pos}
 use Rattle.rules.specs.Records.{Pair}
 use Rattle.rules.specs.Update.{nonZero}
 use Rattle.rules.specs.Graph.{swapRemove, position}
 use Rattle.rules.specs.Status.{Pass, Event, Change, start, started, ended, eventIf, stopIf, countOf, withMarks, marks, written, removed, visitAt, visitFound, visit}
-use Rattle.rules.specs.Lookup.{tally, ids, find, first, rotated, tally-append, tally-ids-append, tally-rotated, find-append, find-none, find-rotated, length-rotated, swapRemove-at, eqb-same, eqb-other, Place, missing, found, place}
+use Rattle.rule_laws.specs.Lookup.{tally, ids, find, first, rotated, tally-append, tally-ids-append, tally-rotated, find-append, find-none, find-rotated, length-rotated, swapRemove-at, eqb-same, eqb-other, Place, missing, found, place}
 
 -- which case of the pass is taken
 pub data Verdict : Type 0 where

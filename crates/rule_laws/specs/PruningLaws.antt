@@ -13,9 +13,9 @@ use Rattle.math.specs.ChooseLaws.{maximum-tiny}
 use Rattle.math.specs.Laws.{product-above-lowest}
 use Rattle.math.specs.Vec.{squaredLength, squaredDistance}
 use Rattle.math.specs.declared.vec.Vec3.{Vec3}
 use Rattle.rules.specs.Numbers.{greater, less}
-use Rattle.rules.specs.NumberLaws.{Found, leader-below, leader-exists, leader-same}
+use Rattle.rule_laws.specs.NumberLaws.{Found, leader-below, leader-exists, leader-same}
 use Rattle.rules.specs.Pruning.{PrunePoint, Projected, projected, weight, apart, rest, point1, point2, point3, point4, side, keptBeside, keptFrom}
 
 -- the points below the count have weights above zero, as `projected` gives them
 abbrev pub Deep : ℕ → (ℕ → Projected) → Type 0

@@ -1,0 +1,11 @@
+pub mod NumberLaws
+pub mod MatchingLaws
+pub mod PruningLaws
+pub mod Cases
+pub mod Lookup
+pub mod Visit
+pub mod Passing
+pub mod Outcome
+pub mod Settling
+pub mod Replay
+pub mod Answers

@@ -1,0 +1,1 @@
+// Theorems about the rules of the specification: see specs/. No code.
