@@ -4,7 +4,7 @@ use mathlib.Core.Bool.{Bool}
 use mathlib.Core.Option.{Option, none, some}
 use lib.Ieee.{Float}
 use Rattle.rules.specs.Sides.{overlap}
-use Rattle.rules.specs.Surface.{orElse, either}
+use Rattle.rules.specs.Surface.{orElse, firstGiven}
 use Rattle.collider.specs.Views.{plainCollider}
 use Rattle.collider.specs.Boxes.{boxOf, grown, intersecting}
 use Rattle.collider.specs.declared.aabb.ColliderAabb.{ColliderAabb}
@@ -18,6 +18,6 @@ overlap-by-boxes c1 c2 s {b1} {b2} p q e =
     e ∙ ap (λ (b : ColliderAabb). intersecting b b2) p ∙ ap (intersecting (boxOf c1)) q
 
 -- the first of two that is given, where the second never is
-pub alone : {A : Type 0} (o : Option A) (d : A) → orElse (either o none) d ≡ orElse o d
+pub alone : {A : Type 0} (o : Option A) (d : A) → orElse (firstGiven o none) d ≡ orElse o d
 alone none d = refl
 alone (some a) d = refl

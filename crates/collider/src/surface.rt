@@ -2,7 +2,7 @@
 ghost use mathlib.Core.Path.{_≡_};
 ghost use mathlib.Core.Bool.{cond};
 ghost use lib.Dec.{ltb};
-ghost use Rattle.rules.specs.Surface.{orElse, either, ruled, combine, frictionOf, restitutionOf, marginOf};
+ghost use Rattle.rules.specs.Surface.{orElse, firstGiven, ruled, combine, frictionOf, restitutionOf, marginOf};
 ghost use Rattle.collider.specs.Views.{plainCoefficient, plainCoefficientIf, plainSettings, plainCollider, plainSide};
 use crate::collider_record::ColliderRecord;
 use crate::optional::Coefficient;
@@ -21,7 +21,7 @@ fn first_given(
     other: OptionalCoefficient,
     default: Coefficient,
 ) -> Coefficient
-    ensures { λ r. ⌜ plainCoefficient r ≡ orElse (either (plainCoefficientIf own) (plainCoefficientIf other)) (plainCoefficient default) ⌝ }
+    ensures { λ r. ⌜ plainCoefficient r ≡ orElse (firstGiven (plainCoefficientIf own) (plainCoefficientIf other)) (plainCoefficient default) ⌝ }
 {
     match own {
         OptionalCoefficient::Given(c) => c,

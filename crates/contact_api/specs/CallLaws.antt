@@ -1,14 +1,13 @@
 -- What the public calls ensure is what the C functions promise. Assumes nothing.
-use Prim.Native.Nat.{ℕ, zero, suc, _<_, _≤_}
+use Prim.Native.Nat.{ℕ, _<_, _≤_}
 use mathlib.Core.Path.{_≡_, refl, sym, ap, subst, _∙_}
 use mathlib.Core.Bool.{Bool, true, false, cond, _&&_}
 use mathlib.Core.List.{List, [], _∷_, _++_}
 use mathlib.Core.Option.{Option, some, none}
 use lib.Dec.{eqb, ltb}
-use lib.ListN.{length, getD, take}
-use lib.Seq.{take-nil}
+use lib.ListN.{length, getD}
 use native.Mathlib.Omega.{arith}
-use borrow.Author.Tests.{eqb-true, eq-eqb, ne-eqb, lt-ltb, le-ltb, le-leb, lt-leb}
+use borrow.Author.Tests.{eqb-true, eq-eqb, ne-eqb, lt-ltb, le-leb, lt-leb}
 use Rattle.rules.specs.Limits.{mostContacts}
 use Rattle.rows.specs.Rows.{put}
 use Rattle.rows.specs.Laws.{put-whole}
@@ -17,9 +16,10 @@ use Rattle.manifold_records.specs.Written.{padded, zeros}
 use Rattle.contact_records.specs.Written.{markWord, optionalWords}
 use Rattle.math.specs.declared.vec.Vec3.{Vec3}
 use Rattle.contact_types.specs.Refusals.{numberOf}
+use Rattle.contact_types.specs.RefusalLaws.{some-number}
 use Rattle.contact_types.specs.Prune as prune
 use Rattle.contact_types.specs.Prune.{Pruned, pruneAnswer}
-use Rattle.contact_types.specs.Pruned.{keptOf}
+use Rattle.contact_types.specs.Pruned.{keptStruct}
 use Rattle.contact_types.specs.declared.contact_id.ContactId.{ContactId}
 use Rattle.contact_types.specs.declared.prune.PruneAnswer.{PruneAnswer}
 use Rattle.contact_types.specs.declared.prune.PruneAnswer.the-variants as pruned
@@ -37,21 +37,20 @@ use Rattle.contact_graph.specs.declared.lay_out.LayOutAnswer.{LayOutAnswer}
 use Rattle.contact_graph.specs.declared.look_up.LookUpAnswer.{LookUpAnswer}
 use Rattle.contact_graph.specs.declared.look_up.LookUpAnswer.the-variants as looked
 use Rattle.contact_graph.specs.declared.remove.RemoveAnswer.{RemoveAnswer}
-use Rattle.step.specs.CallLaws.{some-number}
 use Rattle.step.specs.Step as step
 use Rattle.step.specs.Step.{Given, Rows, long, stepRefusal, Stepped, plainAnswer}
 use Rattle.step.specs.declared.answer.StepAnswer.{StepAnswer}
 use Rattle.step.specs.declared.answer.StepAnswer.the-variants as stepped
 use Rattle.step.specs.declared.answer.StepReport.{StepReport}
-use Rattle.contact_api.specs.Calls.{unlessRefused, doneNumber, requestOf, addNumber, edgeWords, lookUpNumber, reportWords, stepNumber, refusalIn, numbersWords, keptWords, pruneNumber, LayOutCalled, RemoveCalled, AddCalled, LookUpCalled, StepCalled, PruneCalled, lengthsNumber, LengthsCalled, layoutNumber, LayoutCalled}
+use Rattle.contact_api.specs.Calls.{unlessRefused, doneNumber, requestOf, idNumber, addNumber, edgeWords, edgeNumber, lookUpNumber, reportWords, reportNumber, stepNumber, refusalIn, numbersWords, keptWords, structWords, structNumber, structRow, pruneNumber, LayOutCalled, RemoveCalled, AddCalled, LookUpCalled, StepCalled, PruneCalled, lengthsNumber, LengthsCalled, layoutNumber, LayoutCalled}
 use Rattle.contact_api.specs.Layout.{requestLength, addAnswerLength, lookUpAnswerLength, stepAnswerLength, pruneNormalLength, pruneAnswerLength, lengthsLength, layoutLength, lengthsWords, layoutWords}
 
 -- ---- the number in an answer that is by cases of a refusal's number is that number
-number-by : {A : Type 0} (number : A → ℕ) (n : ℕ) (d r : A) (b : Bool) → eqb n 0 ≡ b → number d ≡ 0 → number r ≡ n → number (cond b d r) ≡ n
+pub number-by : {A : Type 0} (number : A → ℕ) (n : ℕ) (d r : A) (b : Bool) → eqb n 0 ≡ b → number d ≡ 0 → number r ≡ n → number (cond b d r) ≡ n
 number-by number n d r true e p q = p ∙ sym (eqb-true n 0 e)
 number-by number n d r false e p q = q
 
-done-number : (n : ℕ) → doneNumber (graph.answerFor n) ≡ n
+pub done-number : (n : ℕ) → doneNumber (graph.answerFor n) ≡ n
 done-number n = number-by doneNumber n graph.done (graph.refused n) (eqb n 0) refl refl refl
 
 -- ---- lay out and remove
@@ -67,10 +66,6 @@ written : (lent ws : List ℕ) (n : ℕ) → length lent ≡ n → length ws ≡
 written lent ws n e l = put-whole lent ws (l ∙ sym e)
 
 -- ---- add
-abbrev idNumber : graph.IdAnswer → ℕ
-idNumber (graph.refusedId n) = n
-idNumber (graph.added id) = 0
-
 abbrev idIn : graph.IdAnswer → ℕ
 idIn (graph.refusedId n) = n
 idIn (graph.added id) = id
@@ -130,10 +125,6 @@ edge-words e p q s u =
     (ap (λ (ws : List ℕ). e .id .0 ∷ e .collider1 ∷ e .collider2 ∷ ws)
     (optional-words (bodyOf (e .body1)) (getD two 0 0 ∷ getD two 1 0 ∷ rest) ∙ ap (λ (ws : List ℕ). one ++ ws) (optional-words (bodyOf (e .body2)) rest)))
 
-abbrev edgeNumber : graph.EdgeAnswer → ℕ
-edgeNumber (graph.refusedEdge n) = n
-edgeNumber (graph.found e) = 0
-
 abbrev wordsIn : graph.EdgeAnswer → List ℕ
 wordsIn (graph.refusedEdge n) = []
 wordsIn (graph.found e) = edgeWords e
@@ -165,10 +156,6 @@ module _ (g : List ℕ) (id : ℕ) (lent : List ℕ) where
         record { number = sym m; answer = p ∙ written lent ws 10 h l ∙ w ∙ i ∙ rw m }
 
 -- ---- step
-abbrev reportNumber : step.Answer → ℕ
-reportNumber (step.refused n) = n
-reportNumber (step.stepped events changes recycled) = 0
-
 module _ (x : Given) (g : List ℕ) (l : Rows) (lent : List ℕ) where
   pub step-answer-long : (length lent ≡ stepAnswerLength → ⊥) → StepCalled x g l lent g l lent 1
   unfolding stepNumber
@@ -202,17 +189,22 @@ module _ (x : Given) (g : List ℕ) (l : Rows) (lent : List ℕ) where
         }
 
 -- ---- prune
-pub kept-words : (n a b c d : ℕ) {m w x y z : ℕ} → m ≡ cond (ltb n 4) n 4 → w ≡ cond (ltb 0 m) a 0 → x ≡ cond (ltb 1 m) b 0 → y ≡ cond (ltb 2 m) c 0 → z ≡ cond (ltb 3 m) d 0
-    → m ∷ w ∷ x ∷ y ∷ z ∷ [] ≡ numbersWords (take n (a ∷ b ∷ c ∷ d ∷ []))
+-- the words of a struct are those of the numbers in it
+struct-words : (ks : List ℕ) → structWords (keptStruct ks) ≡ numbersWords ks
 unfolding numbersWords padded zeros
-kept-words zero a b c d p q r s t = rw (q, r, s, t, p)
-kept-words (suc zero) a b c d p q r s t = rw (q, r, s, t, p)
-kept-words (suc (suc zero)) a b c d p q r s t = rw (q, r, s, t, p)
-kept-words (suc (suc (suc zero))) a b c d p q r s t = rw (q, r, s, t, p)
-kept-words (suc (suc (suc (suc n)))) a b c d p q r s t =
-    let f : ltb (suc (suc (suc (suc n)))) 4 ≡ false = le-ltb (suc (suc (suc (suc n)))) 4 (omega arith) in
-    let e = p ∙ ap (λ (b : Bool). cond b (suc (suc (suc (suc n)))) 4) f in
-    rw (q, r, s, t, e) (ap (λ (ws : List ℕ). numbersWords (a ∷ b ∷ c ∷ d ∷ ws)) (sym (take-nil n)))
+struct-words [] = refl
+struct-words (a ∷ []) = refl
+struct-words (a ∷ b ∷ []) = refl
+struct-words (a ∷ b ∷ c ∷ []) = refl
+struct-words (a ∷ b ∷ c ∷ d ∷ ks) = refl
+
+pub struct-number : (a : prune.Answer (List ℕ)) → structNumber (prune.inStruct a) ≡ refusalIn a
+struct-number (prune.refused n) = refl
+struct-number (prune.keeps ks) = refl
+
+pub struct-row : (a : prune.Answer (List ℕ)) → structRow [] (prune.inStruct a) ≡ keptWords a
+struct-row (prune.refused n) = refl
+struct-row (prune.keeps ks) = struct-words ks
 
 module _ (normal points : List ℕ) (count : ℕ) (lent : List ℕ) where
   pub prune-normal-long : (length normal ≡ pruneNormalLength → ⊥) → PruneCalled normal points count lent lent 1
@@ -227,20 +219,29 @@ module _ (normal points : List ℕ) (count : ℕ) (lent : List ℕ) where
       record { number = rw (e, f); answer = rw (e, f) }
 
   module _ (h : length normal ≡ pruneNormalLength) (k : length lent ≡ pruneAnswerLength) (v : Vec3) (q : v ≡ vec3At normal 0) (r : PruneAnswer) (x : Pruned v points count r) where
-    prune-number : pruneNumber normal points count lent ≡ refusalIn (prune.answerOf r)
+    abbrev told : prune.Answer (List ℕ)
+    told = pruneAnswer (vec3At normal 0) points count
+
+    answer-is : prune.answerOf r ≡ prune.inStruct told
+    answer-is = x .answer ∙ ap (λ (u : Vec3). prune.inStruct (pruneAnswer u points count)) q
+
+    prune-number : pruneNumber normal points count lent ≡ structNumber (prune.answerOf r)
     unfolding pruneNumber
-    prune-number = let e = eq-eqb (length normal) pruneNormalLength h in let f = eq-eqb (length lent) pruneAnswerLength k in rw (e, f, ← q, x .answer)
+    prune-number =
+        let e = eq-eqb (length normal) pruneNormalLength h in
+        let f = eq-eqb (length lent) pruneAnswerLength k in
+        rw (e, f) (sym (ap structNumber answer-is ∙ struct-number told))
 
     pub prune-refused : (z : Refusal) (n : ℕ) → r ≡ pruned.Refused z → n ≡ numberOf z → PruneCalled normal points count lent lent n
     prune-refused z n e p =
-        let m : pruneNumber normal points count lent ≡ numberOf z = prune-number ∙ ap (λ (a : PruneAnswer). refusalIn (prune.answerOf a)) e in
+        let m : pruneNumber normal points count lent ≡ numberOf z = prune-number ∙ ap (λ (a : PruneAnswer). structNumber (prune.answerOf a)) e in
         record { number = p ∙ sym m; answer = rw (m, some-number z) }
 
-    pub prune-kept : (p : KeptPoints) (ws lent′ : List ℕ) → r ≡ pruned.Kept p → ws ≡ numbersWords (keptOf p) → length ws ≡ 5 → lent′ ≡ put lent 0 ws → PruneCalled normal points count lent lent′ 0
-    prune-kept p ws lent′ e w l o =
-        let m : pruneNumber normal points count lent ≡ 0 = prune-number ∙ ap (λ (a : PruneAnswer). refusalIn (prune.answerOf a)) e in
-        let i : numbersWords (keptOf p) ≡ keptWords (pruneAnswer (vec3At normal 0) points count) = sym (ap (λ (a : PruneAnswer). keptWords (prune.answerOf a)) e) ∙ ap keptWords (x .answer) ∙ ap (λ (u : Vec3). keptWords (pruneAnswer u points count)) q in
-        record { number = sym m; answer = o ∙ written lent ws 5 k l ∙ w ∙ i ∙ rw m }
+    pub prune-kept : (p : KeptPoints) (lent′ : List ℕ) → r ≡ pruned.Kept p → lent′ ≡ put lent 0 (p .count ∷ p .first ∷ p .second ∷ p .third ∷ p .fourth ∷ []) → PruneCalled normal points count lent lent′ 0
+    prune-kept p lent′ e o =
+        let m : pruneNumber normal points count lent ≡ 0 = prune-number ∙ ap (λ (a : PruneAnswer). structNumber (prune.answerOf a)) e in
+        let i : structWords p ≡ keptWords told = sym (ap (λ (a : PruneAnswer). structRow [] (prune.answerOf a)) e) ∙ ap (structRow []) answer-is ∙ struct-row told in
+        record { number = sym m; answer = o ∙ written lent (structWords p) 5 k refl ∙ i ∙ rw m }
 
 -- ---- lengths and layout
 module _ (capacity : ℕ) (lent : List ℕ) where

@@ -11,6 +11,7 @@ use Rattle.words.specs.Words.{wordAt, floatAt, vec3At}
 use Rattle.manifold_records.specs.Written.{padded}
 use Rattle.contact_records.specs.Written.{markWord, optionalWords}
 use Rattle.contact_types.specs.Prune as prune
+use Rattle.contact_types.specs.declared.pruning.KeptPoints.{KeptPoints}
 use Rattle.contact_graph.specs.Calls.{layOutRefusal, laidOut, addRefusal, newIdOf, addedWords, idRefusal, removedWords}
 use Rattle.contact_graph.specs.LookUp.{Edge, edgeOf}
 use Rattle.contact_graph.specs.Promises as graph
@@ -48,6 +49,15 @@ requestOf w =
       «speculative_distance» = floatAt w 8;
     }
 
+-- what an answer says: the refusal's number or 0, and the row lent for the answer
+abbrev pub idNumber : graph.IdAnswer → ℕ
+idNumber (graph.refusedId n) = n
+idNumber (graph.added id) = 0
+
+abbrev pub idRow : List ℕ → graph.IdAnswer → List ℕ
+idRow lent (graph.refusedId n) = lent
+idRow lent (graph.added id) = id ∷ []
+
 -- 1 for a row of the function's own, then what the call refuses
 unfoldable pub addNumber : List ℕ → List ℕ → List ℕ → ℕ
 addNumber g request answer = cond (long request requestLength && long answer addAnswerLength) (addRefusal g (requestOf request)) 1
@@ -62,6 +72,14 @@ unfoldable pub edgeWords : Edge → List ℕ
 edgeWords e =
     e .names .id ∷ e .names .collider1 ∷ e .names .collider2
     ∷ (optionalWords (e .names .body1) ++ (optionalWords (e .names .body2) ++ (e .index ∷ markWord (e .marks .touching) ∷ markWord (e .marks .contactEvents) ∷ [])))
+
+abbrev pub edgeNumber : graph.EdgeAnswer → ℕ
+edgeNumber (graph.refusedEdge n) = n
+edgeNumber (graph.found e) = 0
+
+abbrev pub edgeRow : List ℕ → graph.EdgeAnswer → List ℕ
+edgeRow lent (graph.refusedEdge n) = lent
+edgeRow lent (graph.found e) = edgeWords e
 
 unfoldable pub lookUpNumber : List ℕ → ℕ → List ℕ → ℕ
 lookUpNumber g id answer = cond (long answer lookUpAnswerLength) (idRefusal g id) 1
@@ -81,6 +99,14 @@ abbrev pub reportWords : step.Answer → List ℕ
 reportWords (step.refused n) = []
 reportWords (step.stepped events changes recycled) = events ∷ changes ∷ recycled ∷ []
 
+abbrev pub reportNumber : step.Answer → ℕ
+reportNumber (step.refused n) = n
+reportNumber (step.stepped events changes recycled) = 0
+
+abbrev pub reportRow : List ℕ → step.Answer → List ℕ
+reportRow lent (step.refused n) = lent
+reportRow lent (step.stepped events changes recycled) = events ∷ changes ∷ recycled ∷ []
+
 unfoldable pub stepNumber : Given → List ℕ → Rows → List ℕ → ℕ
 stepNumber x g l answer = cond (long answer stepAnswerLength) (stepRefusal x g l) 1
 
@@ -92,7 +118,7 @@ pub record StepCalled (x : Given) (g : List ℕ) (l : Rows) (lent g′ : List �
 
 -- ---- prune
 -- the refusal's number, or 0
-abbrev pub refusalIn : prune.Answer → ℕ
+abbrev pub refusalIn : prune.Answer (List ℕ) → ℕ
 refusalIn (prune.refused n) = n
 refusalIn (prune.keeps ks) = 0
 
@@ -100,9 +126,21 @@ refusalIn (prune.keeps ks) = 0
 unfoldable pub numbersWords : List ℕ → List ℕ
 numbersWords ks = length ks ∷ padded storedPoints ks
 
-abbrev pub keptWords : prune.Answer → List ℕ
+abbrev pub keptWords : prune.Answer (List ℕ) → List ℕ
 keptWords (prune.refused n) = []
 keptWords (prune.keeps ks) = numbersWords ks
+
+-- of the struct
+abbrev pub structWords : KeptPoints → List ℕ
+structWords k = k .count ∷ k .first ∷ k .second ∷ k .third ∷ k .fourth ∷ []
+
+abbrev pub structNumber : prune.Answer KeptPoints → ℕ
+structNumber (prune.refused n) = n
+structNumber (prune.keeps k) = 0
+
+abbrev pub structRow : List ℕ → prune.Answer KeptPoints → List ℕ
+structRow lent (prune.refused n) = lent
+structRow lent (prune.keeps k) = structWords k
 
 unfoldable pub pruneNumber : List ℕ → List ℕ → ℕ → List ℕ → ℕ
 pruneNumber normal points count answer = cond (long normal pruneNormalLength && long answer pruneAnswerLength) (refusalIn (prune.pruneAnswer (vec3At normal 0) points count)) 1

@@ -8,7 +8,7 @@ use Rattle.contact_records.specs.Layout as contact
 use Rattle.contact_range.specs.Layout as graph
 use Rattle.proposals.specs.Layout as proposal
 use Rattle.shares.specs.Layout as shares
-use Rattle.status_pass.specs.Said as said
+use Rattle.status_pass.specs.EventsAndChanges as listing
 use Rattle.update_pass.specs.Shared.{bitsLength}
 
 -- ---- rows of the C functions' own
@@ -44,7 +44,7 @@ layoutLength = 95
 unfoldable pub lengthsWords : ℕ → List ℕ
 lengthsWords capacity =
     collider.settingsLength ∷ collider.collidersLength ∷ collider.bodiesLength ∷ (capacity * proposal.proposalSize) ∷ shares.sharesLength capacity ∷ graph.graphLength capacity
-    ∷ bitsLength capacity ∷ said.eventsLength capacity ∷ said.changesLength capacity ∷ capacity ∷ []
+    ∷ bitsLength capacity ∷ listing.eventsLength capacity ∷ listing.changesLength capacity ∷ capacity ∷ []
 
 -- ---- the layout
 abbrev pub limitWords : List ℕ
@@ -90,7 +90,7 @@ proposalPlaces =
     ∷ proposal.featuresPlace ∷ []
 
 abbrev pub otherPlaces : List ℕ
-otherPlaces = shares.countsPlace ∷ shares.entriesPlace ∷ said.eventSize ∷ said.changeSize ∷ []
+otherPlaces = shares.countsPlace ∷ shares.entriesPlace ∷ listing.eventSize ∷ listing.changeSize ∷ []
 
 abbrev pub answerLengths : List ℕ
 answerLengths =

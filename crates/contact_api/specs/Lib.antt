@@ -1,3 +1,5 @@
 pub mod Layout
 pub mod Calls
 pub mod CallLaws
+pub mod DeterminedLaws
+pub mod CalledLaws

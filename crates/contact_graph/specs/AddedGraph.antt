@@ -10,6 +10,7 @@ use borrow.Author.Tests.{eqb-true, eqb-false}
 use lib.Dec.{eqb, ltb}
 use lib.ListN.{length, getD, take, length-take}
 use lib.Seq.{getD-take, ext-getD}
+use Rattle.math.specs.Fit.{FitFloat}
 use Rattle.rows.specs.Slots.{upto}
 use Rattle.rules.specs.Graph.{newPair, newId, plainAdd}
 use Rattle.rules.specs.Numbers.{every}
@@ -21,7 +22,6 @@ use Rattle.manifold_records.specs.Lists.{map-upto-next, map-upto-same, getD-map
 use Rattle.manifold_records.specs.Written.{zeros}
 use Rattle.contact_records.specs.Apart.{pair-same}
 use Rattle.contact_records.specs.Back.{pair-held}
-use Rattle.contact_records.specs.Fit.{FitFloat}
 use Rattle.contact_records.specs.Layout as record-place
 use Rattle.contact_records.specs.Lengths.{length-contact}
 use Rattle.contact_records.specs.Held.{Holds}

@@ -17,7 +17,7 @@ use Rattle.rows.specs.SlotLaws.{slots-apart}
 use Rattle.rules.specs.Limits.{bodies}
 use Rattle.rules.specs.Numbers.{any}
 use Rattle.rule_laws.specs.NumberLaws.{any-same}
-use Rattle.rules.specs.Stripped.{strippedPoint, strippedManifold, stripped}
+use Rattle.rule_laws.specs.Stripped.{strippedPoint, strippedManifold, stripped}
 use Rattle.words.specs.Words.{wordAt}
 use Rattle.manifold_records.specs.Lists.{map-upto-same}
 use Rattle.manifold_records.specs.Recorded.{pointAt, pointsAt, manifoldAt, manifoldsAt}

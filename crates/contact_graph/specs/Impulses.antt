@@ -6,7 +6,7 @@ use mathlib.Core.Bool.{true}
 use mathlib.Core.List.{List, map}
 use lib.ListN.{length}
 use Rattle.rules.specs.Graph.{Graph}
-use Rattle.rules.specs.Stripped.{stripped}
+use Rattle.rule_laws.specs.Stripped.{stripped}
 use Rattle.words.specs.Words.{wordAt}
 use Rattle.contact_records.specs.Layout as record-place
 use Rattle.contact_range.specs.Recorded.{contactAt}

@@ -4,6 +4,7 @@ pub mod LookUp
 pub mod Removing
 pub mod Adding
 pub mod Promises
+pub mod DeterminedLaws
 pub mod Zeros
 pub mod LayOutLaws
 pub mod Effects

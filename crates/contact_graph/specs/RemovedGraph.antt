@@ -12,7 +12,7 @@ use lib.Ieee.{binary32, ofBits}
 use lib.ListN.{length, getD, take, set, length-take, length-set}
 use lib.Seq.{getD-take, getD-set-same, getD-set-other, ext-getD}
 use Rattle.rows.specs.Slots.{upto}
-use Rattle.rules.specs.Graph.{Graph, later, position, swapRemove, removedAt, removedFound, plainRemove}
+use Rattle.rules.specs.Graph.{Graph, later, pairIndex, swapRemove, removedAt, removedFound, plainRemove}
 use Rattle.rules.specs.Records.{Pair}
 use Rattle.words.specs.Words.{wordAt}
 use Rattle.manifold_records.specs.Counts.{Counted}
@@ -64,13 +64,13 @@ module _ (xs : List ℕ) (a : ℕ) (ys : List ℕ) (b : ℕ) (same : (o : ℕ) �
 
 -- ---- lists of pairs
 -- the first pair of that id is the one at the place
-pub position-at : (id : ℕ) (ps : List Pair) (k : ℕ) (d : Pair) → k < length ps → getD ps k d .names .id ≡ id → ((j : ℕ) → j < k → getD ps j d .names .id ≡ id → ⊥) → position id ps ≡ some k
-unfolding position
-position-at id [] k d h e n = absurd (not-suc-le-zero h)
-position-at id (p ∷ ps) zero d h e n = ap (λ (t : Bool). cond t (some 0) (later (position id ps))) (eq-eqb (p .names .id) id e)
-position-at id (p ∷ ps) (suc k) d h e n =
-    ap (λ (t : Bool). cond t (some 0) (later (position id ps))) (ne-eqb (p .names .id) id (n zero (zero-lt-suc k)))
-    ∙ ap later (position-at id ps k d (le-of-suc-le-suc h) e (λ j l. n (suc j) (suc-le-suc l)))
+pub pairIndex-at : (id : ℕ) (ps : List Pair) (k : ℕ) (d : Pair) → k < length ps → getD ps k d .names .id ≡ id → ((j : ℕ) → j < k → getD ps j d .names .id ≡ id → ⊥) → pairIndex id ps ≡ some k
+unfolding pairIndex
+pairIndex-at id [] k d h e n = absurd (not-suc-le-zero h)
+pairIndex-at id (p ∷ ps) zero d h e n = ap (λ (t : Bool). cond t (some 0) (later (pairIndex id ps))) (eq-eqb (p .names .id) id e)
+pairIndex-at id (p ∷ ps) (suc k) d h e n =
+    ap (λ (t : Bool). cond t (some 0) (later (pairIndex id ps))) (ne-eqb (p .names .id) id (n zero (zero-lt-suc k)))
+    ∙ ap later (pairIndex-at id ps k d (le-of-suc-le-suc h) e (λ j l. n (suc j) (suc-le-suc l)))
 
 pub getD-any {ℓ} : {A : Type ℓ} (l : List A) (i : ℕ) (d e : A) → i < length l → getD l i d ≡ getD l i e
 getD-any [] i d e h = absurd (not-suc-le-zero h)
@@ -129,9 +129,9 @@ module _ {g : List ℕ} (id : ℕ) (c : Checked g) (s : stands g id ≡ true) wh
   pub at-place : (k : ℕ) → k < listedCount g → getD pairs k gone .names .id ≡ listedAt g k
   at-place k l = ap (λ (p : Pair). p .names .id) (getD-map-upto (listedPair g) (listedCount g) k gone l) ∙ pair-id g k
 
-  pub removed-position : position id pairs ≡ some (placeOf g id)
-  removed-position =
-      position-at id pairs (placeOf g id) gone (omega (arith, here, length-map-upto (listedPair g) (listedCount g))) (at-place (placeOf g id) here ∙ named)
+  pub removed-pairIndex : pairIndex id pairs ≡ some (placeOf g id)
+  removed-pairIndex =
+      pairIndex-at id pairs (placeOf g id) gone (omega (arith, here, length-map-upto (listedPair g) (listedCount g))) (at-place (placeOf g id) here ∙ named)
       (λ j l e. let b : j < listedCount g = omega (arith, here) in
       let z = listed-once (c .range) j (placeOf g id) b here (sym (at-place j b) ∙ e ∙ sym named) in omega arith)
 
@@ -161,7 +161,7 @@ module _ {g : List ℕ} (id : ℕ) (c : Checked g) (s : stands g id ≡ true) wh
   pub plain-removed : plainRemove id (graphOf g) ≡ removedAt (graphOf g) (placeOf g id) gone
   unfolding graphOf plainRemove
   plain-removed =
-      ap (λ (o : Option ℕ). removedFound (graphOf g) o pairs) removed-position
+      ap (λ (o : Option ℕ). removedFound (graphOf g) o pairs) removed-pairIndex
       ∙ found-at (graphOf g) (placeOf g id) pairs gone (omega (arith, here, length-map-upto (listedPair g) (listedCount g)))
       ∙ ap (removedAt (graphOf g) (placeOf g id)) (getD-map-upto (listedPair g) (listedCount g) (placeOf g id) gone here)
 

@@ -9,7 +9,7 @@ use Rattle.math.specs.Laws.{nan-le, le-nan}
 use Rattle.math.specs.Root.{root}
 use Rattle.rules.specs.Inputs.{Settings}
 use Rattle.rules.specs.Records.{Cache}
-use Rattle.rules.specs.Recycling.{scaledRecycle, toleranceFor, leastTurn, squaredMotion, arc, recycles, tooTurned, tooFar, tooSwept}
+use Rattle.rules.specs.Recycling.{scaledRecycle, toleranceFor, leastSquaredDot, squaredMotion, arc, recycles, rotatedTooFar, movedTooFar, arcTooLong}
 use Rattle.rules.specs.Sides.{Side}
 
 module _ (s : Settings) (touching : Bool) (a b : Side) where
@@ -23,30 +23,30 @@ module _ (s : Settings) (touching : Bool) (a b : Side) where
   recycle-none o e = rw e
 
   module _ (o : Option Cache) (k : Cache) (e : o ≡ some k) (on : le (scaledRecycle s) zeroF ≡ false) where
-    pub recycle-turned : {t : Float} → t ≡ leastTurn a b k → le t (s .recycleCosine) ≡ true → false ≡ recycles s touching a b o
+    pub recycle-turned : {t : Float} → t ≡ leastSquaredDot a b k → le t (s .recycleCosine) ≡ true → false ≡ recycles s touching a b o
     unfolding recycles
     recycle-turned p q = rw (e, on, ← p, q)
 
-    pub recycle-far : {t d c : Float} → t ≡ leastTurn a b k → le t (s .recycleCosine) ≡ false → c ≡ toleranceFor s touching → d ≡ squaredMotion a b k → le (c ⊗ c) d ≡ true → false ≡ recycles s touching a b o
+    pub recycle-far : {t d c : Float} → t ≡ leastSquaredDot a b k → le t (s .recycleCosine) ≡ false → c ≡ toleranceFor s touching → d ≡ squaredMotion a b k → le (c ⊗ c) d ≡ true → false ≡ recycles s touching a b o
     unfolding recycles
     recycle-far p q x y z = rw (e, on, ← p, q, ← x, ← y, z)
 
-    pub recycle-swept : {t d c w r : Float} → t ≡ leastTurn a b k → le t (s .recycleCosine) ≡ false → c ≡ toleranceFor s touching → d ≡ squaredMotion a b k → le (c ⊗ c) d ≡ false
+    pub recycle-swept : {t d c w r : Float} → t ≡ leastSquaredDot a b k → le t (s .recycleCosine) ≡ false → c ≡ toleranceFor s touching → d ≡ squaredMotion a b k → le (c ⊗ c) d ≡ false
         → w ≡ arc a b k → r ≡ root d → le (c ⊖ r) w ≡ true → false ≡ recycles s touching a b o
     unfolding recycles
     recycle-swept p q x y z u v m = rw (e, on, ← p, q, ← x, ← y, z, ← u, ← v, m)
 
-    pub recycle-holds : {t d c w r : Float} → t ≡ leastTurn a b k → le t (s .recycleCosine) ≡ false → c ≡ toleranceFor s touching → d ≡ squaredMotion a b k → le (c ⊗ c) d ≡ false
+    pub recycle-holds : {t d c w r : Float} → t ≡ leastSquaredDot a b k → le t (s .recycleCosine) ≡ false → c ≡ toleranceFor s touching → d ≡ squaredMotion a b k → le (c ⊗ c) d ≡ false
         → w ≡ arc a b k → r ≡ root d → le (c ⊖ r) w ≡ false → true ≡ recycles s touching a b o
     unfolding recycles
     recycle-holds p q x y z u v m = rw (e, on, ← p, q, ← x, ← y, z, ← u, ← v, m)
 
 -- NaN abandons nothing: no test holds of it
-pub nan-not-turned : (s : Settings) → tooTurned s nan ≡ false
+pub nan-not-turned : (s : Settings) → rotatedTooFar s nan ≡ false
 nan-not-turned s = nan-le (s .recycleCosine)
 
-pub nan-not-far : (tolerance : Float) → tooFar tolerance nan ≡ false
+pub nan-not-far : (tolerance : Float) → movedTooFar tolerance nan ≡ false
 nan-not-far tolerance = le-nan (tolerance ⊗ tolerance)
 
-pub nan-not-swept : (tolerance d2 : Float) → tooSwept tolerance d2 nan ≡ false
+pub nan-not-swept : (tolerance d2 : Float) → arcTooLong tolerance d2 nan ≡ false
 nan-not-swept tolerance d2 = le-nan (tolerance ⊖ root d2)

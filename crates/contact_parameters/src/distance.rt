@@ -1,6 +1,6 @@
 // The distance at which a point still counts as a contact: rule 8. From avian's `update_contacts`.
 ghost use mathlib.Core.Path.{_≡_};
-ghost use Rattle.rules.specs.Surface.{orElse, clampedVelocity, swept, contactDistance};
+ghost use Rattle.rules.specs.Surface.{orElse, clampedVelocity, sweptDistance, effectiveSpeculativeOf};
 ghost use mathlib.Core.Bool.{cond, _||_};
 ghost use lib.Ieee.{ne};
 ghost use Rattle.math.specs.Choose.{maximum};
@@ -36,7 +36,7 @@ fn clamped_velocity(s: Settings, a: Side, max: f32) -> Vec3
 
 // How far the bodies are expected to move toward each other in the step.
 fn swept_distance(s: Settings, a: Side, b: Side, max1: f32, max2: f32) -> f32
-    ensures { λ r. ⌜ r ≡ swept (plainSettings s) (plainSide a) (plainSide b) max1 max2 ⌝ }
+    ensures { λ r. ⌜ r ≡ sweptDistance (plainSettings s) (plainSide a) (plainSide b) max1 max2 ⌝ }
 {
     let v1 = clamped_velocity(s, a, max1);
     let v2 = clamped_velocity(s, b, max2);
@@ -45,7 +45,7 @@ fn swept_distance(s: Settings, a: Side, b: Side, max1: f32, max2: f32) -> f32
 
 // The speculative part, where either body has a maximum other than 0.
 fn speculative(s: Settings, a: Side, b: Side, given: f32, max1: f32, max2: f32) -> f32
-    ensures { λ r. ⌜ r ≡ cond (ne max1 zeroF || ne max2 zeroF) (maximum (swept (plainSettings s) (plainSide a) (plainSide b) max1 max2) given) given ⌝ }
+    ensures { λ r. ⌜ r ≡ cond (ne max1 zeroF || ne max2 zeroF) (maximum (sweptDistance (plainSettings s) (plainSide a) (plainSide b) max1 max2) given) given ⌝ }
 {
     if max1 != 0.0 {
         return maximum(swept_distance(s, a, b, max1, max2), given);
@@ -56,8 +56,8 @@ fn speculative(s: Settings, a: Side, b: Side, given: f32, max1: f32, max2: f32) 
     given
 }
 
-pub fn contact_distance(s: Settings, a: Side, b: Side, given: f32) -> f32
-    ensures { λ r. ⌜ r ≡ contactDistance (plainSettings s) (plainSide a) (plainSide b) given ⌝ }
+pub fn effective_speculative(s: Settings, a: Side, b: Side, given: f32) -> f32
+    ensures { λ r. ⌜ r ≡ effectiveSpeculativeOf (plainSettings s) (plainSide a) (plainSide b) given ⌝ }
 {
     let limit1 = a.speculative_maximum;
     let limit2 = b.speculative_maximum;

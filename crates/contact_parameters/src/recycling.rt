@@ -1,6 +1,6 @@
 // Whether a pair's contacts are recycled, and how: rules 4 and 5. The recycle block of avian's `update_contacts`.
 ghost use mathlib.Core.Path.{_≡_};
-ghost use Rattle.rules.specs.Recycling.{scaledTolerance, scaledRecycle, toleranceFor, radius, leastTurn, squaredMotion, arc, recycles};
+ghost use Rattle.rules.specs.Recycling.{scaledTolerance, scaledRecycle, toleranceFor, radius, leastSquaredDot, squaredMotion, arc, recycles};
 ghost use Rattle.contact_parameters.specs.Motions.{motionOf};
 ghost use Rattle.collider.specs.Views.{plainSettings, plainSide};
 ghost use Rattle.contact_records.specs.StateViews.{cachedOf, cacheOf};
@@ -43,8 +43,8 @@ fn sweep(a: Side) -> f32
     if a.fixed { 0.0 } else { a.sweep_radius }
 }
 
-fn least_turn(a: Side, b: Side, k: ContactRecyclingCache) -> f32
-    ensures { λ r. ⌜ r ≡ leastTurn (plainSide a) (plainSide b) (cachedOf k) ⌝ }
+fn least_squared_dot(a: Side, b: Side, k: ContactRecyclingCache) -> f32
+    ensures { λ r. ⌜ r ≡ leastSquaredDot (plainSide a) (plainSide b) (cachedOf k) ⌝ }
 {
     let angle1 = a.pose.rotation.dot(k.rotation1);
     let angle2 = b.pose.rotation.dot(k.rotation2);
@@ -77,7 +77,7 @@ pub fn recycle(s: Settings, touching: bool, a: Side, b: Side, cache: RecyclingCa
         let RecyclingCache::Cached(k) = cache else {
             break 'recycle false;
         };
-        if least_turn(a, b, k) <= s.recycle_cosine {
+        if least_squared_dot(a, b, k) <= s.recycle_cosine {
             break 'recycle false;
         }
         let tolerance = tolerance_for(s, touching);

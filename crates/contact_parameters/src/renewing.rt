@@ -36,7 +36,7 @@ pub fn is_enabled(c1: ColliderRecord, c2: ColliderRecord, a: Side, b: Side) -> b
     (a.here & b.here) & (!c1.sensor & !c2.sensor)
 }
 
-// Marks are set, and none is cleared but `touching` and `generate_constraints`.
+// `touching`, `generate_constraints`, `static1` and `static2` are overwritten; the started and stopped marks are set, never cleared; the rest stay.
 pub fn renewed_flags(
     f: ContactPairFlags,
     static1: bool,

@@ -1,9 +1,9 @@
-// What the points of a pair share: friction, restitution, margins and the contact distance. Rules 7 and 8.
+// What the points of a pair share: friction, restitution, margins and the distance without them. Rules 7 and 8.
 ghost use mathlib.Core.Path.{_≡_};
 ghost use Rattle.rules.specs.Surface.{surfaceOf};
 ghost use Rattle.collider.specs.Views.{plainSettings, plainCollider, plainSide};
 ghost use Rattle.contact_parameters.specs.Views.{plainSurface};
-use crate::distance::contact_distance;
+use crate::distance::effective_speculative;
 use collider::collider_record::ColliderRecord;
 use collider::settings::Settings;
 use collider::side::Side;
@@ -17,7 +17,8 @@ pub struct Surface {
     pub restitution: f32,
     // The two margins' sum.
     pub margins: f32,
-    pub distance: f32,
+    // Rule 8's distance, without margins: points are held against it.
+    pub effective_speculative: f32,
 }
 
 pub fn surface_of(
@@ -38,6 +39,6 @@ pub fn surface_of(
         friction: combine(friction1, friction2),
         restitution: combine(restitution1, restitution2),
         margins: margin_of(c1, a) + margin_of(c2, b),
-        distance: contact_distance(s, a, b, given),
+        effective_speculative: effective_speculative(s, a, b, given),
     }
 }

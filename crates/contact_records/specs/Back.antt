@@ -10,6 +10,7 @@ use mathlib.Core.Option.{Option, none, some}
 use lib.Dec.{T, eqb, lit≤}
 use lib.Ieee.{Float, binary32, ofBits}
 use lib.ListN.{length, getD, length-append}
+use Rattle.math.specs.Fit.{FitFloat, FitVec3, FitQuat}
 use Rattle.math.specs.Laws.{bits-back}
 use Rattle.math.specs.declared.quat.Quat.{Quat}
 use Rattle.math.specs.declared.vec.Vec3.{Vec3}
@@ -24,7 +25,7 @@ use Rattle.manifold_records.specs.Lists.{map-upto-is, padded-is}
 use Rattle.manifold_records.specs.Recorded.{pointAt, pointsAt, manifoldAt, manifoldsAt}
 use Rattle.manifold_records.specs.Written.{zeros, padded, pointWords, manifoldWords, manifoldsWords}
 use Rattle.contact_records.specs.Apart.{names-same, edge-same}
-use Rattle.contact_records.specs.Fit.{FitFloat, FitVec3, FitQuat, FitPoint, FitPoints, FitManifold, FitManifolds, FitCached, FitPair}
+use Rattle.contact_records.specs.Fit.{FitPoint, FitPoints, FitManifold, FitManifolds, FitCached, FitPair}
 use Rattle.contact_records.specs.Held.{Holds, put-holds, holds-at, holds-left, holds-right, holds-each, word-held, first-held, same-put}
 use Rattle.contact_records.specs.Ints.{int-back}
 use Rattle.contact_records.specs.Layout as place

@@ -1,32 +1,14 @@
 -- Records that words hold: each float is one of 32 bits, and the lists are within the limits. Definitions only.
 use mathlib.Core.Path.{_≡_}
-use mathlib.Core.Bool.{true}
 use mathlib.Core.List.{List}
 use mathlib.Core.Option.{Option, some}
 use Prim.Native.Nat.{ℕ, _≤_, _<_}
-use lib.Ieee.{Float, binary32, fits}
 use lib.ListN.{length, getD}
 use mir.Syntax.{w32}
 use mir.Val.{SFits}
-use Rattle.math.specs.declared.quat.Quat.{Quat}
-use Rattle.math.specs.declared.vec.Vec3.{Vec3}
+use Rattle.math.specs.Fit.{FitFloat, FitVec3, FitQuat}
 use Rattle.rules.specs.Limits.{storedPoints, pairManifolds}
 use Rattle.rules.specs.Records.{Point, Manifold, Cache, Pair}
-
--- as a proof has it of the code's floats
-abbrev pub FitFloat : Float → Type 0
-FitFloat x = fits binary32 x ≡ true
-
-pub record FitVec3 (v : Vec3) : Type 0 where
-  pub x : FitFloat (v .x)
-  pub y : FitFloat (v .y)
-  pub z : FitFloat (v .z)
-
-pub record FitQuat (q : Quat) : Type 0 where
-  pub x : FitFloat (q .x)
-  pub y : FitFloat (q .y)
-  pub z : FitFloat (q .z)
-  pub w : FitFloat (q .w)
 
 pub record FitPoint (p : Point) : Type 0 where
   pub anchor1 : FitVec3 (p .anchor1)

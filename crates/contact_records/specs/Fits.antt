@@ -5,44 +5,33 @@ use native.Mathlib.Omega.{arith}
 use mathlib.Core.Bool.{Bool, true, false, cond}
 use mathlib.Core.List.{List}
 use mathlib.Core.Option.{none, some}
-use lib.Ieee.{binary32, fits}
-use lib.Ieee.Bits.{ofBits-fits, is-true}
-use lib.ListN.{getD}
 use Rattle.rules.specs.Records.{Point, Manifold, Cache}
-use Rattle.words.specs.Words.{wordAt, floatAt, vec3At, quatAt}
+use Rattle.words.specs.Words.{wordAt}
+use Rattle.words.specs.WordLaws.{read-fits, vec3-fits, quat-fits}
 use Rattle.manifold_records.specs.Counts.{Counted}
 use Rattle.manifold_records.specs.Lists.{getD-map-upto, length-map-upto}
 use Rattle.manifold_records.specs.Recorded.{pointAt, pointsAt, manifoldAt, manifoldsAt}
-use Rattle.contact_records.specs.Fit.{FitFloat, FitVec3, FitQuat, FitPoint, FitPoints, FitManifold, FitManifolds, FitCache, FitCached, FitPair}
+use Rattle.contact_records.specs.Fit.{FitPoint, FitPoints, FitManifold, FitManifolds, FitCache, FitCached, FitPair}
 use Rattle.contact_records.specs.Ints.{int-fits}
 use Rattle.contact_records.specs.Layout as place
 use Rattle.contact_records.specs.Made.{cachedAt}
 use Rattle.contact_records.specs.Recorded.{markAt, cacheAt, pairAt}
 
 module _ (xs : List ℕ) where
-  float-fits : (at : ℕ) → FitFloat (floatAt xs at)
-  float-fits at = is-true (fits binary32 (floatAt xs at)) (ofBits-fits binary32 (getD xs at 0))
-
-  pub vec3-fits : (at : ℕ) → FitVec3 (vec3At xs at)
-  vec3-fits at = record { x = float-fits at; y = float-fits (at + 1); z = float-fits (at + 2) }
-
-  pub quat-fits : (at : ℕ) → FitQuat (quatAt xs at)
-  quat-fits at = record { x = float-fits at; y = float-fits (at + 1); z = float-fits (at + 2); w = float-fits (at + 3) }
-
   pub point-fits : (at : ℕ) → FitPoint (pointAt xs at)
   unfolding pointAt
   point-fits at =
       record {
-        anchor1 = vec3-fits at;
-        anchor2 = vec3-fits (at + 3);
-        point = vec3-fits (at + 6);
-        penetration = float-fits (at + 9);
-        basePenetration = float-fits (at + 10);
-        normalImpulse = float-fits (at + 11);
-        normalSpeed = float-fits (at + 12);
-        warmStartNormal = float-fits (at + 13);
-        warmStartTangent1 = float-fits (at + 14);
-        warmStartTangent2 = float-fits (at + 15);
+        anchor1 = vec3-fits xs at;
+        anchor2 = vec3-fits xs (at + 3);
+        point = vec3-fits xs (at + 6);
+        penetration = read-fits xs (at + 9);
+        basePenetration = read-fits xs (at + 10);
+        normalImpulse = read-fits xs (at + 11);
+        normalSpeed = read-fits xs (at + 12);
+        warmStartNormal = read-fits xs (at + 13);
+        warmStartTangent1 = read-fits xs (at + 14);
+        warmStartTangent2 = read-fits xs (at + 15);
       }
 
   pub points-fit : (at n : ℕ) → n ≤ 4 → FitPoints (pointsAt xs at n)
@@ -57,10 +46,10 @@ module _ (xs : List ℕ) where
   manifold-fits at l =
       record {
         points = points-fit (at + 9) (wordAt xs at) l;
-        normal = vec3-fits (at + 1);
-        friction = float-fits (at + 4);
-        restitution = float-fits (at + 5);
-        tangentVelocity = vec3-fits (at + 6);
+        normal = vec3-fits xs (at + 1);
+        friction = read-fits xs (at + 4);
+        restitution = read-fits xs (at + 5);
+        tangentVelocity = vec3-fits xs (at + 6);
       }
 
   pub manifolds-fit : (at : ℕ) → Counted xs at → FitManifolds (manifoldsAt xs at)
@@ -79,7 +68,7 @@ module _ (xs : List ℕ) where
   cache-fits at = record { each = go (markAt xs at) }
     where
       here : FitCache (cachedAt xs at)
-      here = record { rotation1 = quat-fits (at + 1); rotation2 = quat-fits (at + 5); relativeTranslation = vec3-fits (at + 9); relativeRotation = quat-fits (at + 12) }
+      here = record { rotation1 = quat-fits xs (at + 1); rotation2 = quat-fits xs (at + 5); relativeTranslation = vec3-fits xs (at + 9); relativeRotation = quat-fits xs (at + 12) }
 
       go : (b : Bool) (c : Cache) → cond b (some (cachedAt xs at)) none ≡ some c → FitCache c
       go true c e = subst FitCache (let q : cachedAt xs at ≡ c = cc in q) here
@@ -91,6 +80,6 @@ module _ (xs : List ℕ) where
       record {
         manifolds = manifolds-fit (at + 36) c;
         countChange = int-fits (wordAt xs (at + 18));
-        speculative = float-fits (at + 19);
+        speculative = read-fits xs (at + 19);
         cache = cache-fits (at + 20);
       }

@@ -7,13 +7,14 @@ use mathlib.Core.List.{List, [], _∷_, _++_}
 use mathlib.Core.Option.{Option, none, some}
 use lib.Dec.{lit≤, lit<}
 use lib.ListN.{length, length-append}
+use Rattle.math.specs.Fit.{FitFloat}
 use Rattle.rows.specs.Rows.{put}
 use Rattle.rows.specs.Laws.{put-next}
 use Rattle.rules.specs.Graph.{Addition, newPair}
 use Rattle.words.specs.Words.{floatWord}
 use Rattle.manifold_records.specs.Lists.{padded-is}
 use Rattle.manifold_records.specs.Written.{zeros, padded, manifoldsWords}
-use Rattle.contact_records.specs.Fit.{FitFloat, FitPair}
+use Rattle.contact_records.specs.Fit.{FitPair}
 use Rattle.contact_records.specs.Lengths.{length-optional}
 use Rattle.contact_records.specs.Written.{markWord, optionalWords, intWord, flagsWords, cacheWords, namesWords, edgeWords, stateWords, contactWords}
 

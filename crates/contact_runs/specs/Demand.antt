@@ -21,10 +21,13 @@ use Rattle.contact_range.specs.RangeLaws.{first-of, rest-of, right-length}
 use Rattle.contact_range.specs.Recorded.{graphOf}
 use Rattle.contact_graph.specs.declared.lay_out.LayOutAnswer.{LayOutAnswer}
 use Rattle.contact_runs.specs.AlikeRuns.{run-alike}
+use Rattle.contact_runs.specs.CalledRuns.{c-run-of, run-called}
 use Rattle.contact_runs.specs.Claim.{plainOf, AsPlain, Demand3}
-use Rattle.contact_runs.specs.OrderLaws.{order-is}
+use Rattle.contact_runs.specs.OnlyLaws.{run-of, run-only}
+use Rattle.contact_runs.specs.OrderedRuns.{any-in-order, run-ordered, run-promised}
 use Rattle.contact_runs.specs.ReplayLaws.{replay-plain, run-replays}
 use Rattle.contact_runs.specs.RunLaws.{run-plain}
+use Rattle.contact_runs.specs.WriteLaws.{writes-impulses, impulses-writes}
 
 -- ---- a newly laid out graph
 -- an answer that it was done
@@ -66,14 +69,22 @@ module _ (before : List ℕ) (capacity : ℕ) (g : List ℕ) (r : LayOutAnswer) 
 pub demand3 : Demand3
 demand3 =
     record {
+      runs = run-of;
+      only = run-only;
+      impulses-alone = λ g c ws. writes-impulses c ws;
+      impulses-any = λ g h c w. impulses-writes c w;
+      ordered = run-ordered;
+      in-any-order = any-in-order;
+      unordered = run-promised;
       plain =
           λ before capacity g r es os l d k. subst (λ (p : Graph). AsPlain es os (plainRun (map plainOf es) p)) (laid-plain before capacity g r l d)
-          (run-plain g (laid-checked before capacity g r l d) es os k);
-      order = order-is;
-      bytes = run-alike;
+          (run-plain g (laid-checked before capacity g r l d) es os (run-promised g es os k));
+      bytes = λ g es fs os ps r s a. run-alike g es fs os ps (run-promised g es os r) (run-promised g fs ps s) a;
       replay =
           λ before capacity g r es os l d k p id. ap (λ (h : Held). h id)
-          (run-replays g (laid-checked before capacity g r l d) es os k (λ _. none)
+          (run-replays g (laid-checked before capacity g r l d) es os (run-promised g es os k) (λ _. none)
           ∙ ap (λ (q : Graph). replayAnswers (plainRun (map plainOf es) q) (λ _. none)) (laid-plain before capacity g r l d))
           ∙ replay-plain es capacity p id;
+      c-runs = c-run-of;
+      called = run-called;
     }

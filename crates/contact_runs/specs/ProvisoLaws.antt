@@ -1,6 +1,6 @@
 -- The two provisos of the replay hold along every list of calls whose additions name both bodies and whose steps give each collider a body and no sensor. Assumes nothing.
 use Prim.Native.Nat.{ℕ, zero, suc}
-use mathlib.Core.Path.{_≡_, refl, sym, subst}
+use mathlib.Core.Path.{_≡_, refl, sym, ap, subst}
 use mathlib.Core.Bool.{Bool, true, false, cond, not, _&&_}
 use mathlib.Core.List.{List, [], _∷_, map, List·Memᴰ}
 use mathlib.Core.Option.{Option, none, some}
@@ -18,16 +18,20 @@ use Rattle.rules.specs.Runs.{unlessRefused, plainCall, named, keepsGenerating, 
 use Rattle.rule_laws.specs.Settling.{outcomeOf}
 use Rattle.rules.specs.Sides.{overlap, interact, Side, sideOf}
 use Rattle.rules.specs.Recycling.{recycles}
+use Rattle.rules.specs.Solver.{Write, pairWritten, plainWrite, plainWrites}
+use Rattle.rule_laws.specs.SolverLaws.{written-kept}
 use Rattle.rules.specs.Status.{plainStep}
-use Rattle.rules.specs.Update.{apart, bodyOf, disjoint, recycledPair, enabled, renewedFlags, renewed, overlapping, updatedBetween, Updated, updated}
-use Rattle.rule_laws.specs.Visit.{Verdict, vanishes, starts, stops, generates, recounts, stands, verdict, next}
+use Rattle.rule_laws.specs.Stripped.{stripped}
+use Rattle.rules.specs.Update.{aabbsDisjoint, bodyOf, disjoint, recycledPair, enabled, renewedFlags, renewed, overlapping, updatedBetween, Updated, updated}
+use Rattle.rule_laws.specs.Visit.{Verdict, vanishes, starts, stops, generates, recounts, persists, verdict, next}
 use Rattle.contact_graph.specs.Calls.{optional, additionOf}
 use Rattle.contact_graph.specs.declared.call.Request.{Request}
 use Rattle.step.specs.Step.{inputs}
-use Rattle.contact_runs.specs.Claim.{Entry, addition, stepping, impulses, plainOf}
+use Rattle.contact_runs.specs.Claim.{plainOf}
+use Rattle.contact_runs.specs.Runs.{Entry, addition, stepping, impulses}
 use Rattle.contact_runs.specs.ReplayLaws.{room-at}
 use Rattle.contact_runs.specs.Refusals.{plainAddRefusal, plainStepRefusal}
-use Rattle.contact_runs.specs.Solver.{pairWith, impulsesAt}
+use Rattle.contact_runs.specs.Solver.{plainOfWrite}
 
 -- ---- a step that gives each collider a body, and none is a sensor, turns no pair from generating to not
 abbrev pub Solid : (ℕ → Option Body) → Option Collider → Type 0
@@ -71,7 +75,7 @@ module _ (s : Settings) (body : ℕ → Option Body) (answer : Bool) (proposal :
       let b = sideOf c2 (bodyOf body (c2 .body)) in
       let t = recycles s (p .flags .touching) a b (p .cache) in
       either-generates (overlap c1 c2 (p .speculative) && interact c1 c2) (overlapping s answer proposal c1 c2 a b p t (p .cache))
-      (record { pair = disjoint p; way = apart; bit = true; distance = zeroF })
+      (record { pair = disjoint p; way = aabbsDisjoint; bit = true; maxContactDistance = zeroF })
       (overlapping-generates c1 c2 a b (both-enabled c1 c2 a b (h .0) (k .0) (h .1) (k .1)) t (p .cache)) disjoint-generates
 
 pub keeps-generating : (i : Inputs) → AllSolid i → (p : Pair) → keepsGenerating i p
@@ -103,7 +107,7 @@ next-named starts q n = n
 next-named stops q n = n
 next-named generates q n = n
 next-named recounts q n = n
-next-named stands q n = n
+next-named persists q n = n
 
 left-named : (q : Pair) (t : Bool) → NamedPair (some q) → NamedPair (outcomeOf q t)
 left-named q true n = next-named (verdict q) q n
@@ -122,19 +126,24 @@ mapped-named : (f : Pair → Pair) → ((p : Pair) → f p .names ≡ p .names) 
 mapped-named f e none n = tt
 mapped-named f e (some p) n = renamed p (f p) (e p) n
 
-names-with : (h : List ℕ) (p : Pair) → pairWith (impulsesAt h) p .names ≡ p .names
-unfolding pairWith
-names-with h p = refl
+names-written : (w : Write) (p : Pair) → pairWritten w p .names ≡ p .names
+unfolding stripped
+names-written w p = ap (λ (q : Pair). q .names) (written-kept w p)
 
-write-named : (h : List ℕ) (g : Graph) → AllNamed g → AllNamed (rules.withPairs g (map (pairWith (impulsesAt h)) (g .pairs)))
-write-named h g n k =
-    subst NamedPair (sym (find-map (pairWith (impulsesAt h)) (names-with h) k (g .pairs))) (mapped-named (pairWith (impulsesAt h)) (names-with h) (find k (g .pairs)) (n k))
+write-named : (w : Write) (g : Graph) → AllNamed g → AllNamed (plainWrite w g)
+write-named w g n k =
+    subst NamedPair (sym (find-map (pairWritten w) (names-written w) k (g .pairs))) (mapped-named (pairWritten w) (names-written w) (find k (g .pairs)) (n k))
+
+writes-named : (ws : List Write) (g : Graph) → AllNamed g → AllNamed (plainWrites ws g)
+unfolding plainWrites
+writes-named [] g n = n
+writes-named (w ∷ ws) g n = writes-named ws (plainWrite w g) (write-named w g n)
 
 -- ---- calls that keep to the provisos
 abbrev pub Keeping : Entry → Type 0
 Keeping (addition a) = (a .«has_body1» ≡ 1) × (a .«has_body2» ≡ 1)
 Keeping (stepping x l) = AllSolid (inputs x)
-Keeping (impulses h) = Unit {0}
+Keeping (impulses ws) = Unit {0}
 
 unfoldable pub AllKeeping : List Entry → Type 0
 AllKeeping [] = Unit {0}
@@ -168,7 +177,7 @@ call-named (addition a) g k s n =
     either-named (plainAddRefusal a g) g (record { graph = plainAdd (additionOf a) g; answer = rules.added (newId g) }) n (add-named a g k n)
 call-named (stepping x l) g k s n =
     either-named (plainStepRefusal x l g) g (record { graph = plainStep (inputs x) g .graph; answer = rules.stepped (plainStep (inputs x) g) }) n (step-named (inputs x) g s n)
-call-named (impulses h) g k s n = write-named h g n
+call-named (impulses ws) g k s n = writes-named (map plainOfWrite ws) g n
 
 provisos-at : (e : Entry) (g : Graph) → Keeping e → Sound g → AllNamed g → ProvisosAt (plainOf e) g
 unfolding ProvisosAt
@@ -177,7 +186,7 @@ provisos-at (stepping x l) g k s n = λ t p m. (λ q. both-bodies p m, keeps-gen
   where
     both-bodies : (p : Pair) → List·Memᴰ p (g .pairs) → NamedPair (some (updated (inputs x) p .pair))
     both-bodies p m = renamed p (updated (inputs x) p .pair) (names-kept (inputs x) p) (subst NamedPair (sound-find g s p m) (n (p .names .id)))
-provisos-at (impulses h) g k s n = tt
+provisos-at (impulses ws) g k s n = tt
 
 provisos-along : (es : List Entry) (g : Graph) → AllKeeping es → Sound g → AllNamed g → Provisos (map plainOf es) g
 unfolding AllKeeping Provisos

@@ -43,13 +43,14 @@ plainHooksFit proposals ps = allPairs (λ p. hookFits proposals (p .names .id * 
 unfoldable pub plainProposalsFit : List ℕ → List Pair → Bool
 plainProposalsFit proposals ps = allPairs (λ p. proposalFits proposals (p .names .id * proposalSize)) ps
 
--- 1 to 8 workers; what is listed is active, and each active pair is listed once
+-- 1 to 8 workers; what is listed is active, and each active pair is listed once. That no more are listed than the capacity follows, and is tested first, as the code does
 unfoldable pub plainSharesFit : List ℕ → Graph → Bool
 plainSharesFit xs g =
     ((ltb 0 (workersOf xs) && leb (workersOf xs) mostWorkers) && leb (totalOf xs) (g .capacity))
     && (every (λ j. somePair (λ p. eqb (p .names .id) (entryAt xs j)) (g .pairs)) (totalOf xs)
     && allPairs (λ p. eqb (times (entryAt xs) (p .names .id) (totalOf xs)) 1) (g .pairs))
 
+-- 1 of the rows beside the graph, and 2 of all but the graph: a graph that calls have left is of its length and in range
 unfoldable pub plainStepRefusal : Given → Rows → Graph → ℕ
 plainStepRefusal x l g =
     cond (not (givenLong x (g .capacity) && rowsLong l (g .capacity))) 1

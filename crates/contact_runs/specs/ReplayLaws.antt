@@ -25,12 +25,13 @@ use Rattle.step.specs.Step as step
 use Rattle.step.specs.Step.{Given, Rows, stepRefusal, inputs, passOf, rowsOf, answerOf, plainAnswer}
 use Rattle.step.specs.StepLaws.{step-means}
 use Rattle.step.specs.declared.answer.StepAnswer.{StepAnswer}
-use Rattle.contact_runs.specs.Claim as claim
-use Rattle.contact_runs.specs.Claim.{Entry, addition, stepping, impulses, Told, Outcome, Call, Run, plainOf, toldChanges, replayTold}
+use Rattle.contact_runs.specs.Runs as runs
+use Rattle.contact_runs.specs.Claim.{plainOf, toldChanges, replayTold}
+use Rattle.contact_runs.specs.Runs.{Entry, addition, stepping, impulses, Told, Outcomes, end, _then_, Promised, Run}
 use Rattle.contact_runs.specs.RefusalLaws.{step-refusal}
 use Rattle.contact_runs.specs.Refusals.{somePair, plainAddRefusal}
 use Rattle.contact_runs.specs.RunLaws.{call-plain}
-use Rattle.contact_runs.specs.ToldLaws.{refused-told, stepped-told}
+use Rattle.contact_runs.specs.ReadLaws.{refused-changes, changes-read}
 
 -- the number 5 of an addition
 add-spare : (a : Request) (g : Graph) → plainAddRefusal a g ≡ 0 → length (g .pairs) ≡ g .capacity → ⊥
@@ -57,8 +58,8 @@ replay-plain es capacity p id = answers-replay-holds capacity (map plainOf es) p
 
 -- ---- the changes that the calls have written
 -- replayed after a call, they do what the plain answer does
-abbrev Replays : Told → List ℕ → After → Type 0
-Replays t h a = (k : Held) → replay (graphOf h .pairs) (toldChanges t) k ≡ replayAnswer (a .answer) k
+abbrev Replays : (e : Entry) → Told e → List ℕ → After → Type 0
+Replays e t h a = (k : Held) → replay (graphOf h .pairs) (toldChanges t) k ≡ replayAnswer (a .answer) k
 
 module _ (g : List ℕ) (x : Given) (l : Rows) where
   abbrev plainStepped : After
@@ -66,36 +67,36 @@ module _ (g : List ℕ) (x : Given) (l : Rows) where
 
   step-replays : (h : List ℕ) (l′ : Rows) (r : StepAnswer) (n : ℕ) → stepRefusal x g l ≡ n
       → plainAnswer r ≡ cond (eqb n 0) (answerOf x g) (step.refused n) → h ≡ cond (eqb n 0) (passOf x g .graph) g → l′ ≡ cond (eqb n 0) (rowsOf x g l) l
-      → Replays (claim.stepped r l′) h (unlessRefused n (graphOf g) plainStepped)
+      → Replays (stepping x l) (runs.stepped r l′) h (unlessRefused n (graphOf g) plainStepped)
   unfolding replay replayAnswer
   step-replays h l′ r zero z p q s k =
       let m = step-means x g l z in
-      let told = stepped-told x g l l′ r z p s ∙ m .changes in
+      let told = changes-read x g l z l′ r p s ∙ m .changes in
       let left = ap graphOf q ∙ m .graph in
       λ i. replay (left i .pairs) (told i) k
   step-replays h l′ r (suc n) z p q s k =
       let e = p ∙ ap (λ (b : Bool). cond b (answerOf x g) (step.refused (suc n))) (eqb·suc-zero n) in
-      ap (λ (cs : List Change). replay (graphOf h .pairs) cs k) (refused-told r (l′ .changes) (suc n) e)
+      ap (λ (cs : List Change). replay (graphOf h .pairs) cs k) (refused-changes r (l′ .changes) (suc n) e)
 
 add-silent : (n : ℕ) (g : Graph) (a : After) (id : ℕ) (k : Held) → a .answer ≡ added id → k ≡ replayAnswer (unlessRefused n g a .answer) k
 unfolding replayAnswer
 add-silent zero g a id k e = ap (λ (b : Answer). replayAnswer b k) (sym e)
 add-silent (suc n) g a id k e = refl
 
-told-replays : (g : List ℕ) → Checked g → (e : Entry) (t : Told) (h : List ℕ) → Call g e (record { told = t; graph = h }) → Replays t h (plainCall (plainOf e) (graphOf g))
+call-replays : (g : List ℕ) → Checked g → {e : Entry} {t : Told e} {h : List ℕ} → Promised g e t h → Replays e t h (plainCall (plainOf e) (graphOf g))
 unfolding plainCall replay replayAnswer
-told-replays g c (addition a) (claim.added r) h m k =
+call-replays g c (runs.Promised.adds {a} f m) k =
     add-silent (plainAddRefusal a (graphOf g)) (graphOf g) (record { graph = plainAdd (additionOf a) (graphOf g); answer = added (newId (graphOf g)) }) (newId (graphOf g)) k refl
-told-replays g c (stepping x l) (claim.stepped r l′) h m k =
-    subst (λ (n : ℕ). Replays (claim.stepped r l′) h (unlessRefused n (graphOf g) (plainStepped g x l))) (step-refusal c x l)
+call-replays g c (runs.Promised.steps {x} {l} {l′} {r} {h} m) k =
+    subst (λ (n : ℕ). Replays (stepping x l) (runs.stepped r l′) h (unlessRefused n (graphOf g) (plainStepped g x l))) (step-refusal c x l)
     (step-replays g x l h l′ r (stepRefusal x g l) refl (m .answer) (m .graph) (m .rows)) k
-told-replays g c (impulses j) claim.silent h m k = refl
+call-replays g c runs.Promised.writes k = refl
 
-pub run-replays : (g : List ℕ) → Checked g → (es : List Entry) (os : List Outcome) → Run g es os → (k : Held)
+pub run-replays : (g : List ℕ) → Checked g → (es : List Entry) (os : Outcomes es) → Run Promised g es os → (k : Held)
     → replayTold os k ≡ replayAnswers (plainRun (map plainOf es) (graphOf g)) k
 unfolding Run replayTold plainRun replayAnswers
-run-replays g c [] [] r k = refl
-run-replays g c (e ∷ es) (o ∷ os) r k =
-    let m = call-plain g c e o (r .0) in
-    run-replays (o .graph) (m .0) es os (r .1) (replay (graphOf (o .graph) .pairs) (toldChanges (o .told)) k)
-    ∙ (λ i. replayAnswers (plainRun (map plainOf es) (m .2 i)) (told-replays g c e (o .told) (o .graph) (r .0) k i))
+run-replays g c [] end r k = refl
+run-replays g c (e ∷ es) (o then os) r k =
+    let m = call-plain g c (r .0) in
+    ap (replayTold os) (call-replays g c (r .0) k) ∙ run-replays (o .graph) (m .0) es os (r .1) (replayAnswer (plainCall (plainOf e) (graphOf g) .answer) k)
+    ∙ ap (λ (p : Graph). replayAnswers (plainRun (map plainOf es) p) (replayAnswer (plainCall (plainOf e) (graphOf g) .answer) k)) (m .2)

@@ -1,9 +1,11 @@
 pub mod Features
 pub mod Points
 pub mod Refusals
+pub mod RefusalLaws
 pub mod Views
 pub mod Pruned
 pub mod PruneSteps
 pub mod PruneEnd
 pub mod Prune
 pub mod PruneLoad
+pub mod PruneLaws

@@ -10,7 +10,8 @@ use Rattle.rules.specs.Limits.{storedPoints, proposedPoints}
 use Rattle.rules.specs.Pruning as rules
 use Rattle.words.specs.Words.{floatAt, vec3At}
 use Rattle.contact_types.specs.Refusals.{numberOf}
-use Rattle.contact_types.specs.Pruned.{pointBy, keptOf}
+use Rattle.contact_types.specs.Pruned.{pointBy, keptStruct}
+use Rattle.contact_types.specs.declared.pruning.KeptPoints.{KeptPoints}
 use Rattle.contact_types.specs.declared.pruning.PrunePoint.{PrunePoint}
 use Rattle.contact_types.specs.declared.prune.PruneAnswer.{PruneAnswer}
 use Rattle.contact_types.specs.declared.prune.PruneAnswer.the-variants.{Kept, Refused}
@@ -19,27 +20,32 @@ use Rattle.contact_types.specs.declared.prune.PruneAnswer.the-variants.{
 abbrev pub prunePointAt : List ℕ → ℕ → rules.PrunePoint
 prunePointAt words k = record { anchor1 = vec3At words (4 * k); penetration = floatAt words (4 * k + 3) }
 
--- a refusal's number, or the numbers of the points that stay in the order of the output
-pub data Answer : Type 0 where
-  refused : ℕ → Answer
-  keeps : List ℕ → Answer
+-- a refusal's number, or the points that stay: the list of their numbers in the order of the output, or the struct that holds it
+pub data Answer (Points : Type 0) : Type 0 where
+  refused : ℕ → Answer Points
+  keeps : Points → Answer Points
 
 -- refusals 1, 8, 6, in that order: a length that is not that of 32 points (short sheet), fewer than 5 points (thin manifold), over 32 points (overfull proposal)
-unfoldable pub pruneAnswer : Vec3 → List ℕ → ℕ → Answer
+unfoldable pub pruneAnswer : Vec3 → List ℕ → ℕ → Answer (List ℕ)
 pruneAnswer normal words count =
     cond (not (eqb (length words) (4 * proposedPoints))) (refused 1)
     (cond (ltb count (storedPoints + 1)) (refused 8)
     (cond (ltb proposedPoints count) (refused 6)
     (keeps (rules.kept normal count (prunePointAt words)))))
 
--- what an answer of the code says
-abbrev pub answerOf : PruneAnswer → Answer
-answerOf (Kept k) = keeps (keptOf k)
+-- the struct for the numbers
+abbrev pub inStruct : Answer (List ℕ) → Answer KeptPoints
+inStruct (refused n) = refused n
+inStruct (keeps ks) = keeps (keptStruct ks)
+
+-- an answer of the code
+abbrev pub answerOf : PruneAnswer → Answer KeptPoints
+answerOf (Kept k) = keeps k
 answerOf (Refused r) = refused (numberOf r)
 
 -- The promise of `prune`. The lent points are read only.
 pub record Pruned (normal : Vec3) (words : List ℕ) (count : ℕ) (r : PruneAnswer) : Type 0 where
-  pub answer : answerOf r ≡ pruneAnswer normal words count
+  pub answer : answerOf r ≡ inStruct (pruneAnswer normal words count)
 
 -- the first points of the array are those of the words
 pub record LoadedPoints (words : List ℕ) (points : List PrunePoint) (count : ℕ) : Type 0 where

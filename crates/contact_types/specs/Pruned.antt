@@ -53,6 +53,10 @@ pub record SidesFound (normal : Vec3) (count : ℕ) (p : ℕ → rules.Projected
   pub below : s .below ≡ numbered (rules.point3 normal count p i j)
   pub above : s .above ≡ numbered (rules.point4 normal count p i j)
 
--- the numbers of the points that stay
+-- the struct for a list of numbers: how many there are, then the numbers, 0 past them
+abbrev pub keptStruct : List ℕ → KeptPoints
+keptStruct ks = record { count = length ks; first = getD ks 0 0; second = getD ks 1 0; third = getD ks 2 0; fourth = getD ks 3 0 }
+
+-- the numbers in a struct
 abbrev pub keptOf : KeptPoints → List ℕ
 keptOf k = take (k .count) (k .first ∷ k .second ∷ k .third ∷ k .fourth ∷ [])

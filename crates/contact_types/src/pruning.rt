@@ -4,7 +4,7 @@ ghost use mathlib.Core.List.{_∷_, _++_};
 ghost use Prim.Native.Nat.{_≤_, _<_};
 ghost use Rattle.math.specs.Vec.{dot, _-v_};
 ghost use Rattle.rules.specs.Pruning.{projected, weight, point1, point2, kept};
-ghost use Rattle.contact_types.specs.Pruned.{prunePointOf, projectedOf, pointBy, projectedBy, AllProjected, numbered, listedNumber, overtaking, undertaking, keptOf, SidesFound};
+ghost use Rattle.contact_types.specs.Pruned.{prunePointOf, projectedOf, pointBy, projectedBy, AllProjected, numbered, listedNumber, overtaking, undertaking, keptStruct, SidesFound};
 use math::choose::maximum;
 use math::constants::LOWEST;
 use math::constants::TINY;
@@ -34,7 +34,7 @@ pub struct Sides {
     pub above: u32,
 }
 
-// The numbers of the points that stay: the first `count` of the four.
+// The numbers of the points that stay: the first `count` of the four. The others are 0.
 pub struct KeptPoints {
     pub count: u32,
     pub first: u32,
@@ -181,7 +181,7 @@ fn side_points(ps: [Projected; 32], count: usize, i: u32, j: u32, normal: Vec3) 
 
 // In the order 1, 3, 2, 4, which forms a convex polygon.
 fn gather(i: u32, below: u32, j: u32, above: u32) -> KeptPoints
-    ensures { λ r. ⌜ (keptOf r ≡ i ∷ listedNumber below ++ j ∷ listedNumber above) × (r .count ≤ 4) ⌝ }
+    ensures { λ r. ⌜ r ≡ keptStruct (i ∷ listedNumber below ++ j ∷ listedNumber above) ⌝ }
 {
     if below == NONE {
         if above == NONE {
@@ -222,7 +222,7 @@ fn gather(i: u32, below: u32, j: u32, above: u32) -> KeptPoints
 // The points that stay, of two or more.
 pub fn prune_points(points: [PrunePoint; 32], count: usize, normal: Vec3) -> KeptPoints
     requires { ⌜ (1 < count) × (count ≤ 32) ⌝ }
-    ensures { λ r. ⌜ (keptOf r ≡ kept normal count (pointBy points)) × (r .count ≤ 4) ⌝ }
+    ensures { λ r. ⌜ r ≡ keptStruct (kept normal count (pointBy points)) ⌝ }
 {
     let ps = project_all(points, count, normal);
     let i = first_point(ps, count);

@@ -5,7 +5,7 @@ use Rattle.rows.specs.Rows.{part, put}
 use Rattle.rows.specs.Slots.{updateAt}
 use Rattle.rules.specs.Inputs.{Settings, Inputs}
 use Rattle.rules.specs.Records.{Point, Manifold, Pair}
-use Rattle.rules.specs.Update.{Way, skipped, apart, recycled, full, Updated, updatedBetween}
+use Rattle.rules.specs.Update.{Way, skipped, aabbsDisjoint, recycled, full, Updated, updatedBetween}
 use Rattle.words.specs.Words.{wordAt, floatWord}
 use Rattle.collider.specs.Recorded.{colliderAt, bodyAt}
 use Rattle.contact_records.specs.Layout as place
@@ -37,7 +37,7 @@ staticPlace = place.flagsPlace + 6
 -- its penetrations, the speculative distance and the static marks, and a full update writes all of the pair's own words.
 unfoldable pub afterWords : Way → Pair → List ℕ → List ℕ
 afterWords skipped p w = w
-afterWords apart p w = put (put w disjointPlace (1 ∷ [])) place.speculativePlace (0 ∷ [])
+afterWords aabbsDisjoint p w = put (put w disjointPlace (1 ∷ [])) place.speculativePlace (0 ∷ [])
 afterWords recycled p w =
     put (put (manifoldsPut (p .manifolds) (place.manifoldsPlace + 1) w) staticPlace (markWord (p .flags .static1) ∷ markWord (p .flags .static2) ∷ [])) place.speculativePlace (0 ∷ [])
 afterWords full p w = put w place.flagsPlace (stateWords p)

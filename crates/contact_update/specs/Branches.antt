@@ -20,7 +20,7 @@ use Rattle.collider.specs.Range.{isMark, colliderFits, collidersFit}
 use Rattle.collider.specs.Recorded.{numberIfAt, presentCollider, colliderAt}
 use Rattle.contact_range.specs.RangeLaws.{first-of, rest-of}
 use Rattle.contact_update.specs.After.{afterWords}
-use Rattle.contact_update.specs.Made.{skippedUpdate, apartUpdate, recycledUpdate, overlapped}
+use Rattle.contact_update.specs.Made.{skippedUpdate, disjointUpdate, recycledUpdate, overlapped}
 use Rattle.contact_update.specs.Updates.{BelowLimit, Updates, SkippedIs}
 use Rattle.contact_update.specs.declared.record.Outcome.{Outcome}
 
@@ -62,9 +62,9 @@ module _ (s : Settings) (body : ℕ → Option Body) (answer : Bool) (proposal :
   second-absent c1 o q e f = rw (e, f)
 
   module _ (c1 c2 : Collider) where
-    pub between-apart : overlap c1 c2 (p .speculative) && interact c1 c2 ≡ false → updatedBetween s body answer proposal p (some c1) (some c2) ≡ apartUpdate p
+    pub between-disjoint : overlap c1 c2 (p .speculative) && interact c1 c2 ≡ false → updatedBetween s body answer proposal p (some c1) (some c2) ≡ disjointUpdate p
     unfolding updatedBetween
-    between-apart e = rw e
+    between-disjoint e = rw e
 
     pub between-overlapping : (a b : Side) → overlap c1 c2 (p .speculative) && interact c1 c2 ≡ true → a ≡ sideOf c1 (bodyOf body (c1 .body)) → b ≡ sideOf c2 (bodyOf body (c2 .body))
         → updatedBetween s body answer proposal p (some c1) (some c2) ≡ overlapped s answer proposal c1 c2 a b p

@@ -39,11 +39,11 @@ pub record OwnUpdated (s : Settings) (colliders bodies proposals : List ℕ) (id
   pub graph : h ≡ graphAfter s colliders bodies proposals g id
   pub bit : r .bit ≡ updateOf s colliders bodies proposals id g .bit
   pub recycled : r .recycled ≡ isRecycled (updateOf s colliders bodies proposals id g .way)
-  pub distance : r .distance ≡ updateOf s colliders bodies proposals id g .distance
+  pub distance : r .«max_contact_distance» ≡ updateOf s colliders bodies proposals id g .maxContactDistance
 
 -- The promise of `update_contact`: the graph, one bit, one distance, and whether the contact was recycled.
 pub record ContactUpdated (s : Settings) (colliders bodies proposals : List ℕ) (id : ℕ) (g h bits bits′ distances distances′ : List ℕ) (r : Bool) : Type 0 where
   pub graph : h ≡ graphAfter s colliders bodies proposals g id
   pub bit : bits′ ≡ cond (updateOf s colliders bodies proposals id g .bit) (marked bits id) bits
-  pub distance : distances′ ≡ put distances id (floatWord (updateOf s colliders bodies proposals id g .distance) ∷ [])
+  pub distance : distances′ ≡ put distances id (floatWord (updateOf s colliders bodies proposals id g .maxContactDistance) ∷ [])
   pub recycled : r ≡ isRecycled (updateOf s colliders bodies proposals id g .way)

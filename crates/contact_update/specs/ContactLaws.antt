@@ -66,5 +66,5 @@ module _ (s : Settings) {colliders bodies proposals g : List ℕ} {id : ℕ} (re
         graph = updateAt-lent (place.contactsPlace (capacityOf g)) record-place.contactSize (change s colliders bodies proposals) (change-keeps s colliders bodies proposals) g id at n p q room back;
         bit = made .bit ∙ ap (λ (x : Updated). x .bit) whole;
         recycled = made .recycled ∙ ap (λ (x : Updated). isRecycled (x .way)) whole;
-        distance = made .distance ∙ ap (λ (x : Updated). x .distance) whole;
+        distance = made .distance ∙ ap (λ (x : Updated). x .maxContactDistance) whole;
       }

@@ -1,5 +1,4 @@
 pub mod After
-pub mod FitLeaves
 pub mod ManifoldFits
 pub mod UpdateFits
 pub mod RecordLaws

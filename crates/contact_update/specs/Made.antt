@@ -6,16 +6,16 @@ use Rattle.rules.specs.Inputs.{Settings, Collider, ProposedManifold}
 use Rattle.rules.specs.Records.{Cache, Pair}
 use Rattle.rules.specs.Recycling.{recycles}
 use Rattle.rules.specs.Sides.{Side}
-use Rattle.rules.specs.Update.{skipped, apart, recycled, Updated, disjoint, recycledPair, overlapping}
+use Rattle.rules.specs.Update.{skipped, aabbsDisjoint, recycled, Updated, disjoint, recycledPair, overlapping}
 
 abbrev pub skippedUpdate : Pair → Updated
-skippedUpdate p = record { pair = p; way = skipped; bit = false; distance = zeroF }
+skippedUpdate p = record { pair = p; way = skipped; bit = false; maxContactDistance = zeroF }
 
-abbrev pub apartUpdate : Pair → Updated
-apartUpdate p = record { pair = disjoint p; way = apart; bit = true; distance = zeroF }
+abbrev pub disjointUpdate : Pair → Updated
+disjointUpdate p = record { pair = disjoint p; way = aabbsDisjoint; bit = true; maxContactDistance = zeroF }
 
 abbrev pub recycledUpdate : Side → Side → Cache → Pair → Updated
-recycledUpdate a b k p = record { pair = recycledPair a b k p; way = recycled; bit = false; distance = zeroF }
+recycledUpdate a b k p = record { pair = recycledPair a b k p; way = recycled; bit = false; maxContactDistance = zeroF }
 
 abbrev pub overlapped : Settings → Bool → List ProposedManifold → Collider → Collider → Side → Side → Pair → Updated
 overlapped s answer proposal c1 c2 a b p = overlapping s answer proposal c1 c2 a b p (recycles s (p .flags .touching) a b (p .cache)) (p .cache)

@@ -4,34 +4,35 @@ use Prim.Native.Nat.{ℕ, suc, _+_, _*_, _≤_}
 use native.Mathlib.Omega.{arith}
 use mathlib.Core.Bool.{Bool, true, false, cond, not, _&&_}
 use mathlib.Core.List.{List, [], _∷_, map}
-use mathlib.Core.Option.{Option, none, some}
 use borrow.Author.Tests.{ltb-false}
 use lib.Dec.{ltb, leb}
 use lib.Ieee.{Float}
-use lib.ListN.{length, getD, length-append, length-map}
+use lib.ListN.{length, getD, length-map}
 use Rattle.math.specs.Constants.{tenth}
+use Rattle.math.specs.Fit.{FitFloat, FitVec3}
+use Rattle.math.specs.FitLaws.{bits-fit, sum-fits, difference-fits, zero3-fits, dot-fits, vector-sum-fits}
 use Rattle.math.specs.Floats.{_⊗_}
 use Rattle.math.specs.declared.vec.Vec3.{Vec3}
 use Rattle.rows.specs.Slots.{upto}
-use Rattle.rules.specs.Filtering.{movedAnchor, normalSpeedAt, movedPoint, stays, staying, noPoint, prunePoint, pruned, filtered, isEmpty, nonEmpty}
+use Rattle.rules.specs.Filtering.{movedAnchor, normalSpeedAt, movedPoint, stays, staying, noPoint, prunePoint, pruned, filtered, isEmpty, withoutEmpty}
 use Rattle.rules.specs.Inputs.{Settings, ProposedPoint, ProposedManifold}
 use Rattle.rules.specs.Limits.{pairManifolds}
 use Rattle.rules.specs.Matching.{byNumber, matchContacts, matchAll}
-use Rattle.rules.specs.Pruning.{PrunePoint, Projected, projected, point2, point3, point4, listed, keptBeside, keptFrom, kept}
+use Rattle.rules.specs.Pruning.{kept}
+use Rattle.rule_laws.specs.PruningLaws.{kept-four}
 use Rattle.rules.specs.Records.{Point, Manifold, Cache}
 use Rattle.rules.specs.Recycling.{recycledPoint, recycledManifold}
 use Rattle.rules.specs.Sides.{Side}
 use Rattle.rules.specs.Surface.{Surface}
 use Rattle.rules.specs.Update.{hooked, matched, remaining}
 use Rattle.words.specs.Words.{wordAt}
+use Rattle.words.specs.WordLaws.{vec3-fits}
 use Rattle.manifold_records.specs.Lists.{length-map-upto}
-use Rattle.contact_records.specs.Fit.{FitFloat, FitVec3, FitPoint, FitPoints, FitManifold, FitManifolds}
-use Rattle.contact_records.specs.Fits.{vec3-fits}
+use Rattle.contact_records.specs.Fit.{FitPoint, FitPoints, FitManifold, FitManifolds}
 use Rattle.proposals.specs.Layout as proposal-place
 use Rattle.proposals.specs.Range.{Proposed}
 use Rattle.proposals.specs.Recorded.{proposedPointAt, proposedPointsAt, proposedManifoldAt, proposalAt}
 use Rattle.manifold_matching.specs.MatchedFits.{Each, each-none, each-and, each-first, each-rest, each-at, each-upto, each-map, points-mapped, all-matched}
-use Rattle.contact_update.specs.FitLeaves.{bits-fit, sum-fits, difference-fits, zero3-fits, dot-fits, vector-sum-fits}
 
 -- ---- lists, by index. Past the end is whatever the caller says
 each-cond : {A : Type 0} (P : A → Type 0) (t : Bool) (xs ys : List A) → Each P xs → Each P ys → Each P (cond t xs ys)
@@ -117,28 +118,6 @@ none-fits =
       warmStartTangent2 = bits-fit 0;
     }
 
--- at most 4 are kept
-listed-few : (o : Option ℕ) → length (listed o) ≤ 1
-listed-few none = omega arith
-listed-few (some i) = omega arith
-
-beside-few : (normal : Vec3) (count : ℕ) (p : ℕ → Projected) (i : ℕ) (o : Option ℕ) → length (keptBeside normal count p i o) ≤ 4
-unfolding keptBeside
-beside-few normal count p i none = omega arith
-beside-few normal count p i (some j) =
-    let a = listed (point3 normal count p i j) in
-    let b = listed (point4 normal count p i j) in
-    omega (arith, length-append a (j ∷ b), listed-few (point3 normal count p i j), listed-few (point4 normal count p i j))
-
-from-few : (normal : Vec3) (count : ℕ) (p : ℕ → Projected) (o : Option ℕ) → length (keptFrom normal count p o) ≤ 4
-unfolding keptFrom
-from-few normal count p none = omega arith
-from-few normal count p (some i) = beside-few normal count p i (point2 count p i)
-
-pub kept-few : (normal : Vec3) (count : ℕ) (point : ℕ → PrunePoint) → length (kept normal count point) ≤ 4
-unfolding kept
-kept-few normal count point = from-few normal count (λ k. projected normal (point k)) _
-
 pruned-fits : (normal : Vec3) (ps : List Point) → Each FitPoint ps → FitPoints (pruned normal ps)
 unfolding pruned
 pruned-fits normal ps h = go (ltb 4 (length ps)) refl
@@ -149,7 +128,7 @@ pruned-fits normal ps h = go (ltb 4 (length ps)) refl
     go : (t : Bool) → ltb 4 (length ps) ≡ t → FitPoints (cond t (map (λ i. getD ps i noPoint) (kept normal (length ps) (λ k. prunePoint (getD ps k noPoint)))) ps)
     go true e =
         record {
-          few = rw (length-map is (λ i. getD ps i noPoint)) (kept-few normal (length ps) (λ k. prunePoint (getD ps k noPoint)));
+          few = rw (length-map is (λ i. getD ps i noPoint)) (kept-four normal (length ps) (λ k. prunePoint (getD ps k noPoint)));
           each = each-map (λ i. Unit {0}) FitPoint (λ i. getD ps i noPoint) (λ i u. each-at FitPoint ps i noPoint h none-fits) is (λ k d l. tt);
         }
     go false e = record { few = ltb-false 4 (length ps) e; each = h }
@@ -160,7 +139,7 @@ filtered-fits stepTime a b f m hf hm =
     record {
       points =
           pruned-fits (m .normal) _
-          (staying-fits stepTime (f .distance) _
+          (staying-fits stepTime (f .effectiveSpeculative) _
           (each-map PointFits FitPoint (movedPoint a b (f .margins) (m .normal)) (moved-fits a b (f .margins) (m .normal)) (m .points) (hm .points)));
       normal = hm .normal;
       friction = hf .friction;
@@ -168,21 +147,21 @@ filtered-fits stepTime a b f m hf hm =
       tangentVelocity = zero3-fits;
     }
 
-non-empty-few : (ms : List Manifold) → length (nonEmpty ms) ≤ length ms
-unfolding nonEmpty
+non-empty-few : (ms : List Manifold) → length (withoutEmpty ms) ≤ length ms
+unfolding withoutEmpty
 non-empty-few [] = omega arith
 non-empty-few (m ∷ ms) = go (isEmpty (m .points)) (non-empty-few ms)
   where
-    go : (t : Bool) → length (nonEmpty ms) ≤ length ms → length (cond t (nonEmpty ms) (m ∷ nonEmpty ms)) ≤ suc (length ms)
+    go : (t : Bool) → length (withoutEmpty ms) ≤ length ms → length (cond t (withoutEmpty ms) (m ∷ withoutEmpty ms)) ≤ suc (length ms)
     go true h = omega arith
     go false h = omega arith
 
-non-empty-each : (ms : List Manifold) → Each FitManifold ms → Each FitManifold (nonEmpty ms)
-unfolding nonEmpty
+non-empty-each : (ms : List Manifold) → Each FitManifold ms → Each FitManifold (withoutEmpty ms)
+unfolding withoutEmpty
 non-empty-each [] h = h
 non-empty-each (m ∷ ms) h =
     let r = non-empty-each ms (each-rest FitManifold m ms h) in
-    each-cond FitManifold (isEmpty (m .points)) (nonEmpty ms) (m ∷ nonEmpty ms) r (each-and FitManifold m (nonEmpty ms) (each-first FitManifold m ms h) r)
+    each-cond FitManifold (isEmpty (m .points)) (withoutEmpty ms) (m ∷ withoutEmpty ms) r (each-and FitManifold m (withoutEmpty ms) (each-first FitManifold m ms h) r)
 
 -- ---- rule 10
 hooked-fits : (modify answer : Bool) (ms : List Manifold) → FitManifolds ms → FitManifolds (hooked modify answer ms)
@@ -199,7 +178,7 @@ unfolding remaining
 remaining-fits stepTime a b f modify answer proposal hf hp =
     let ms : List Manifold = map (filtered stepTime a b f) proposal in
     let n : length ms ≡ length proposal = length-map proposal (filtered stepTime a b f) in
-    hooked-fits modify answer (nonEmpty ms)
+    hooked-fits modify answer (withoutEmpty ms)
     (record {
       few = omega (arith, non-empty-few ms, hp .few);
       each = non-empty-each ms (each-map FitProposed FitManifold (filtered stepTime a b f) (λ m h. filtered-fits stepTime a b f m hf h) proposal (hp .each));

@@ -11,6 +11,7 @@ use lib.Dec.{T, eqb, ltb, lit≤, lit<}
 use lib.Ieee.{Float, binary32, ofBits}
 use lib.ListN.{length, getD}
 use Rattle.math.specs.Constants.{zeroF}
+use Rattle.math.specs.Fit.{FitFloat}
 use Rattle.math.specs.Floats.{_⊖_}
 use Rattle.math.specs.Laws.{bits-back}
 use Rattle.math.specs.Vec.{dot}
@@ -24,7 +25,7 @@ use Rattle.rules.specs.Matching.{withPoints}
 use Rattle.rules.specs.Records.{Point, Manifold, Cache, PairFlags, Pair}
 use Rattle.rules.specs.Recycling.{recycles, withPenetration, deltaSeparation, recycledPoint, recycledManifold}
 use Rattle.rules.specs.Sides.{overlap, interact, Side, sideOf}
-use Rattle.rules.specs.Update.{Way, skipped, apart, recycled, full, Updated, bodyOf, disjoint, staticFlags, recycledPair, renewed, overlapping, updatedBetween}
+use Rattle.rules.specs.Update.{Way, skipped, aabbsDisjoint, recycled, full, Updated, bodyOf, disjoint, staticFlags, recycledPair, renewed, overlapping, updatedBetween}
 use Rattle.words.specs.Words.{wordAt, floatAt, vec3At, floatWord}
 use Rattle.collider.specs.Recorded.{colliderAt, bodyAt}
 use Rattle.proposals.specs.Recorded.{proposalAt, hookAt}
@@ -34,7 +35,7 @@ use Rattle.manifold_records.specs.Recorded.{pointAt, pointsAt, manifoldAt, mani
 use Rattle.manifold_records.specs.Written.{zeros, manifoldsWords}
 use Rattle.contact_records.specs.Apart.{vec3-same, names-same, edge-same, manifolds-same, counted-same, cache-same}
 use Rattle.contact_records.specs.Back.{withState, state-back, counted-state}
-use Rattle.contact_records.specs.Fit.{FitFloat, FitManifolds, FitPair}
+use Rattle.contact_records.specs.Fit.{FitManifolds, FitPair}
 use Rattle.contact_records.specs.Held.{Holds, Same, put-holds, holds-left, holds-right, same-in, word-same, first-same}
 use Rattle.contact_records.specs.Layout as place
 use Rattle.contact_records.specs.Lengths.{length-cache, length-flags, length-state}
@@ -63,7 +64,7 @@ length-manifolds (m ∷ ms) at w =
 pub after-length : (way : Way) (p : Pair) (w : List ℕ) → length (afterWords way p w) ≡ length w
 unfolding afterWords
 after-length skipped p w = refl
-after-length apart p w = length-put (put w disjointPlace (1 ∷ [])) place.speculativePlace (0 ∷ []) ∙ length-put w disjointPlace (1 ∷ [])
+after-length aabbsDisjoint p w = length-put (put w disjointPlace (1 ∷ [])) place.speculativePlace (0 ∷ []) ∙ length-put w disjointPlace (1 ∷ [])
 after-length recycled p w =
     let ys = manifoldsPut (p .manifolds) (place.manifoldsPlace + 1) w in
     let ms : List ℕ = markWord (p .flags .static1) ∷ markWord (p .flags .static2) ∷ [] in
@@ -129,9 +130,9 @@ manifolds-penetration (x ∷ ms) at w (suc m) k d e l b few r =
     ∙ manifolds-penetration ms (at + 81) ys m k d e (le-of-suc-le-suc l) b (λ i p q. few (suc i) p (suc-le-suc q)) (omega (arith, length-points (x .points) (at + 9) w))
 
 -- ---- words that stay
-pub apart-word : (p : Pair) (w : List ℕ) (j : ℕ) → j ≢ disjointPlace → j ≢ place.speculativePlace → wordAt (afterWords apart p w) j ≡ wordAt w j
+pub disjoint-word : (p : Pair) (w : List ℕ) (j : ℕ) → j ≢ disjointPlace → j ≢ place.speculativePlace → wordAt (afterWords aabbsDisjoint p w) j ≡ wordAt w j
 unfolding afterWords
-apart-word p w j a b = word-other (put w disjointPlace (1 ∷ [])) place.speculativePlace 0 j b ∙ word-other w disjointPlace 1 j a
+disjoint-word p w j a b = word-other (put w disjointPlace (1 ∷ [])) place.speculativePlace 0 j b ∙ word-other w disjointPlace 1 j a
 
 pub recycled-word : (p : Pair) (w : List ℕ) (j : ℕ) → (j < staticPlace) ⊎ (staticPlace + 2 ≤ j) → j ≢ place.speculativePlace
     → ((m k : ℕ) (d : Manifold) → m < length (p .manifolds) → k < length (getD (p .manifolds) m d .points)
@@ -146,7 +147,7 @@ recycled-word p w j a b n =
 pub after-names : (way : Way) (p : Pair) (w : List ℕ) (j : ℕ) → j < place.flagsPlace → wordAt (afterWords way p w) j ≡ wordAt w j
 unfolding afterWords
 after-names skipped p w j l = refl
-after-names apart p w j l = apart-word p w j (λ e. omega arith) (λ e. omega arith)
+after-names aabbsDisjoint p w j l = disjoint-word p w j (λ e. omega arith) (λ e. omega arith)
 after-names recycled p w j l = recycled-word p w j (inl (omega arith)) (λ e. omega arith) (λ m k d a b e. omega arith)
 after-names full p w j l = getD-put-apart w place.flagsPlace (stateWords p) j 0 (inl l)
 
@@ -163,22 +164,22 @@ pub stays : (xs ys : List ℕ) (k n : ℕ) → ((j : ℕ) → k ≤ j → j < k 
 stays xs ys k n f = record { each = λ i l. f (k + i) (omega arith) (omega arith) }
 
 -- rule 2
-pub apart-mark : (p : Pair) (w : List ℕ) → length w ≡ place.contactSize → wordAt (afterWords apart p w) disjointPlace ≡ 1
+pub disjoint-mark : (p : Pair) (w : List ℕ) → length w ≡ place.contactSize → wordAt (afterWords aabbsDisjoint p w) disjointPlace ≡ 1
 unfolding afterWords
-apart-mark p w size = word-other (put w disjointPlace (1 ∷ [])) place.speculativePlace 0 disjointPlace (λ e. omega arith) ∙ word-own w disjointPlace 1 (omega arith)
+disjoint-mark p w size = word-other (put w disjointPlace (1 ∷ [])) place.speculativePlace 0 disjointPlace (λ e. omega arith) ∙ word-own w disjointPlace 1 (omega arith)
 
-pub after-apart : (p : Pair) (w : List ℕ) (id : ℕ) → length w ≡ place.contactSize → Counted w place.manifoldsPlace → pairAt (afterWords apart p w) 0 id ≡ disjoint (pairAt w 0 id)
+pub after-disjoint : (p : Pair) (w : List ℕ) (id : ℕ) → length w ≡ place.contactSize → Counted w place.manifoldsPlace → pairAt (afterWords aabbsDisjoint p w) 0 id ≡ disjoint (pairAt w 0 id)
 unfolding pairAt flagsAt disjoint afterWords
-after-apart p w id size c =
-    let ys = afterWords apart p w in
-    let same : (j : ℕ) → j ≢ 10 → j ≢ 19 → wordAt ys j ≡ wordAt w j = apart-word p w in
+after-disjoint p w id size c =
+    let ys = afterWords aabbsDisjoint p w in
+    let same : (j : ℕ) → j ≢ 10 → j ≢ 19 → wordAt ys j ≡ wordAt w j = disjoint-word p w in
     let none : wordAt ys 19 ≡ 0 = word-own (put w 10 (1 ∷ [])) 19 0 (omega (arith, length-put w 10 (1 ∷ []))) in
     λ i. record {
       names = names-same id (stays w ys 0 6 (λ j a b. same j (λ e. omega arith) (λ e. omega arith))) i;
       edge = edge-same (stays w ys 7 2 (λ j a b. same j (λ e. omega arith) (λ e. omega arith))) i;
       flags = record {
         touching = eqb (same 9 (λ e. omega arith) (λ e. omega arith) i) 1;
-        disjointAabb = eqb (apart-mark p w size i) 1;
+        disjointAabb = eqb (disjoint-mark p w size i) 1;
         startedTouching = eqb (same 11 (λ e. omega arith) (λ e. omega arith) i) 1;
         stoppedTouching = eqb (same 12 (λ e. omega arith) (λ e. omega arith) i) 1;
         generateConstraints = eqb (same 13 (λ e. omega arith) (λ e. omega arith) i) 1;
@@ -439,9 +440,9 @@ module _ (w : List ℕ) (id : ℕ) (size : length w ≡ place.contactSize) (c : 
       let b = sideOf c2 (bodyOf body (c2 .body)) in
       read-either (overlap c1 c2 (old .speculative) && interact c1 c2)
       (overlapping s answer proposal c1 c2 a b old (recycles s (old .flags .touching) a b (old .cache)) (old .cache))
-      (record { pair = disjoint old; way = apart; bit = true; distance = zeroF })
+      (record { pair = disjoint old; way = aabbsDisjoint; bit = true; maxContactDistance = zeroF })
       (read-overlapping s answer proposal c1 c2 a b (recycles s (old .flags .touching) a b (old .cache)) (old .cache))
-      (λ g. after-apart (disjoint old) w id size c) f
+      (λ g. after-disjoint (disjoint old) w id size c) f
 
 pub record-pair : (s : Settings) (colliders bodies proposal : List ℕ) (id : ℕ) (w : List ℕ) → length w ≡ place.contactSize → Counted w place.manifoldsPlace
     → FitPair (recordUpdated s colliders bodies proposal id w .pair) → pairAt (recordAfter s colliders bodies proposal id w) 0 id ≡ recordUpdated s colliders bodies proposal id w .pair
@@ -504,16 +505,16 @@ module _ (p : Pair) (w : List ℕ) (size : length w ≡ place.contactSize) (fits
   old-mark : (j : ℕ) → j < 9 → wordAt w (9 + j) < 2
   old-mark j l = subst (λ (k : ℕ). wordAt w k < 2) (let e : 7 + (2 + j) ≡ 9 + j = omega arith in e) (fits .marks (2 + j) (omega arith))
 
-  apart-fits : Fitting (afterWords apart p w) 0
-  apart-fits =
-      let ys = afterWords apart p w in
-      named-fits apart
+  disjoint-fits : Fitting (afterWords aabbsDisjoint p w) 0
+  disjoint-fits =
+      let ys = afterWords aabbsDisjoint p w in
+      named-fits aabbsDisjoint
       (λ j l. elim (same-or-not j 1) [
-        | inl e ↦ subst (λ (k : ℕ). wordAt ys (9 + k) < 2) (sym e) (omega (arith, apart-mark p w size))
-        | inr n ↦ omega (arith, apart-word p w (9 + j) (λ e. n (omega arith)) (λ e. omega arith), old-mark j l)
+        | inl e ↦ subst (λ (k : ℕ). wordAt ys (9 + k) < 2) (sym e) (omega (arith, disjoint-mark p w size))
+        | inr n ↦ omega (arith, disjoint-word p w (9 + j) (λ e. n (omega arith)) (λ e. omega arith), old-mark j l)
       ])
-      (omega (arith, apart-word p w 20 (λ e. omega arith) (λ e. omega arith), fits .cache))
-      (counted-same counted (stays w ys 36 487 (λ j a b. apart-word p w j (λ e. omega arith) (λ e. omega arith))))
+      (omega (arith, disjoint-word p w 20 (λ e. omega arith) (λ e. omega arith), fits .cache))
+      (counted-same counted (stays w ys 36 487 (λ j a b. disjoint-word p w j (λ e. omega arith) (λ e. omega arith))))
 
   recycled-fits : Fitting (afterWords recycled p w) 0
   recycled-fits =
@@ -558,7 +559,7 @@ module _ (p : Pair) (w : List ℕ) (size : length w ≡ place.contactSize) (fits
   pub after-fits : (way : Way) → Fitting (afterWords way p w) 0
   unfolding afterWords
   after-fits skipped = fits
-  after-fits apart = apart-fits
+  after-fits aabbsDisjoint = disjoint-fits
   after-fits recycled = recycled-fits
   after-fits full = full-fits
 

@@ -71,7 +71,7 @@ module _ (s : Settings) (answer : Bool) (proposal : List ProposedManifold) (c1 c
     same-change = λ i. pos ((sym (m .count) ∙ ap length same-left) i) -ℤ pos ((eo ∙ sym (manifolds-length w place.manifoldsPlace) ∙ ap length em) i)
 
     pub full-updates : {after : List ℕ} → after ≡ put mid 9 (flagsWords (flagsOf (r .flags)) ++ r .change ∷ 0 ∷ cacheWords (some (cachedOf (r .cache))))
-        → Updates (renewed s answer proposal c1 c2 a b p) w after (record { bit = r .bit; recycled = false; distance = r .distance })
+        → Updates (renewed s answer proposal c1 c2 a b p) w after (record { bit = r .bit; recycled = false; «max_contact_distance» = r .«max_contact_distance» })
     unfolding renewed afterWords stateWords ofBits toBits
     full-updates e =
         record {
@@ -79,5 +79,5 @@ module _ (s : Settings) (answer : Bool) (proposal : List ProposedManifold) (c1 c
               ∙ (λ i. put w 9 (flagsWords ((state .flags ∙ (λ j. renewedFlags (ef j) (a .fixed) (b .fixed) (enabled c1 c2 a b) (same-touching j))) i) ++ (state .change ∙ ap intWord same-change) i ∷ 0 ∷ cacheWords (some (state .cache i)) ++ manifoldsWords (matched s (em i) (same-left i))));
           bit = state .bit ∙ (λ i. statusBit (ef i) (enabled c1 c2 a b) (same-touching i) (same-change i));
           recycled = refl;
-          distance = state .distance ∙ (λ i. same-surface i .margins ⊕ same-surface i .distance);
+          distance = state .distance ∙ (λ i. same-surface i .margins ⊕ same-surface i .effectiveSpeculative);
         }

@@ -10,26 +10,28 @@ use lib.ListN.{length}
 use mir.Syntax.{w32}
 use mir.Val.{SFits}
 use Rattle.math.specs.Constants.{half}
+use Rattle.math.specs.Fit.{FitFloat, FitQuat}
+use Rattle.math.specs.FitLaws.{bits-fit, product-fits, cond-fit, maximum-fits, minimum-fits, root-fits, identity-fits, relative-position-fits, relative-rotation-fits}
 use Rattle.math.specs.Floats.{_⊕_, _⊗_}
 use Rattle.rules.specs.Inputs.{Coefficient, Settings, Collider, Body, ProposedManifold}
 use Rattle.rules.specs.Records.{Manifold, Cache, Pair}
 use Rattle.rules.specs.Recycling.{recycles, recycledManifold}
 use Rattle.rules.specs.Sides.{overlap, interact, Side, sideOf}
-use Rattle.rules.specs.Surface.{orElse, either, ruled, combine, frictionOf, restitutionOf, surfaceOf}
+use Rattle.rules.specs.Surface.{orElse, firstGiven, ruled, combine, frictionOf, restitutionOf, surfaceOf}
 use Rattle.rules.specs.Update.{Updated, bodyOf, disjoint, recycledPair, cacheOf, changeOf, renewed, overlapping, updatedBetween}
 use Rattle.words.specs.Words.{wordAt}
+use Rattle.words.specs.WordLaws.{read-fits, quat-fits}
 use Rattle.collider.specs.Layout as collider-place
 use Rattle.collider.specs.Recorded.{markAt, coefficientAt, coefficientIfAt, settingsOf, presentCollider, colliderAt, presentBody, bodyAt}
 use Rattle.manifold_records.specs.Counts.{Counted}
-use Rattle.contact_records.specs.Fit.{FitFloat, FitQuat, FitManifolds, FitCache, FitCached, FitPair}
-use Rattle.contact_records.specs.Fits.{quat-fits, pair-fits}
+use Rattle.contact_records.specs.Fit.{FitManifolds, FitCache, FitCached, FitPair}
+use Rattle.contact_records.specs.Fits.{pair-fits}
 use Rattle.contact_records.specs.Layout as place
 use Rattle.contact_records.specs.Recorded.{pairAt}
 use Rattle.proposals.specs.Range.{Proposed}
 use Rattle.proposals.specs.Recorded.{proposalAt, hookAt}
 use Rattle.contact_update.specs.After.{recordUpdated}
 use Rattle.contact_parameters.specs.ChangeLaws.{change-fit}
-use Rattle.contact_update.specs.FitLeaves.{bits-fit, read-fits, product-fits, cond-fit, maximum-fits, minimum-fits, root-fits, identity-fits, relative-position-fits, relative-rotation-fits}
 use Rattle.contact_update.specs.ManifoldFits.{FitSurface, FitProposal, proposal-read, remaining-fits, matched-fits, manifolds-mapped, recycled-manifold-fits}
 
 -- ---- settings, colliders and bodies
@@ -102,9 +104,9 @@ module _ (xs : List ℕ) where
       go false = tt
 
 -- ---- rule 7
-either-fits : (o p : Option Coefficient) → FitGiven o → FitGiven p → FitGiven (either o p)
-either-fits none p h k = k
-either-fits (some a) p h k = h
+first-given-fits : (o p : Option Coefficient) → FitGiven o → FitGiven p → FitGiven (firstGiven o p)
+first-given-fits none p h k = k
+first-given-fits (some a) p h k = h
 
 else-fits : (o : Option Coefficient) (d : Coefficient) → FitGiven o → FitFloat (d .value) → FitFloat (orElse o d .value)
 else-fits none d h k = k
@@ -125,7 +127,7 @@ combine-fits a b h k = ruled-fits _ (a .value) (b .value) h k
 friction-fits : (s : Settings) (c : Collider) (a : Side) → FitSettings s → FitCollider c → FitSide a → FitFloat (frictionOf s c a .value)
 unfolding frictionOf
 friction-fits s c a hs hc ha =
-    else-fits (either (c .friction) (a .friction)) (s .defaultFriction) (either-fits (c .friction) (a .friction) (hc .friction) (ha .friction)) (hs .friction)
+    else-fits (firstGiven (c .friction) (a .friction)) (s .defaultFriction) (first-given-fits (c .friction) (a .friction) (hc .friction) (ha .friction)) (hs .friction)
 
 restitution-fits : (s : Settings) (c : Collider) → FitSettings s → FitCollider c → FitFloat (restitutionOf s c .value)
 unfolding restitutionOf

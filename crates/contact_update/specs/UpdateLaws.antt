@@ -11,7 +11,7 @@ use Rattle.rules.specs.Records.{Cache, Pair}
 use Rattle.rules.specs.Recycling.{recycles}
 use Rattle.rules.specs.Sides.{Side, overlap, interact, sideOf}
 use Rattle.rules.specs.Surface.{frictionOf, restitutionOf}
-use Rattle.rules.specs.Update.{apart, full, isRecycled, Updated, bodyOf, disjoint, renewed, overlapping, updatedBetween}
+use Rattle.rules.specs.Update.{aabbsDisjoint, full, isRecycled, Updated, bodyOf, disjoint, renewed, overlapping, updatedBetween}
 use Rattle.contact_records.specs.Fit.{FitPair}
 use Rattle.contact_records.specs.Layout as record-place
 use Rattle.contact_range.specs.Checked.{Checked}
@@ -36,7 +36,7 @@ restitution-does-not s c e = rw e
 -- ---- the way
 -- the reported distance is +0 unless rule 8 was reached
 abbrev pub EndedEarly : Updated → Type 0
-EndedEarly u = (u .way ≡ full → ⊥) → u .distance ≡ zeroF
+EndedEarly u = (u .way ≡ full → ⊥) → u .maxContactDistance ≡ zeroF
 
 module _ (s : Settings) (answer : Bool) (proposal : List ProposedManifold) where
   overlapping-distance : (c1 c2 : Collider) (a b : Side) (p : Pair) (t : Bool) (k : Option Cache) → EndedEarly (overlapping s answer proposal c1 c2 a b p t k)
@@ -54,7 +54,7 @@ module _ (s : Settings) (answer : Bool) (proposal : List ProposedManifold) where
       go : (t : Bool) → EndedEarly (cond t
           (overlapping s answer proposal c1 c2 (sideOf c1 (bodyOf body (c1 .body))) (sideOf c2 (bodyOf body (c2 .body))) p
           (recycles s (p .flags .touching) (sideOf c1 (bodyOf body (c1 .body))) (sideOf c2 (bodyOf body (c2 .body))) (p .cache)) (p .cache))
-          (record { pair = disjoint p; way = apart; bit = true; distance = zeroF }))
+          (record { pair = disjoint p; way = aabbsDisjoint; bit = true; maxContactDistance = zeroF }))
       go true n = overlapping-distance c1 c2 _ _ p _ (p .cache) n
       go false n = refl
 

@@ -54,7 +54,7 @@ pub record Updates (u : Updated) (before after : List ℕ) (r : Outcome) : Type 
   pub words : after ≡ afterWords (u .way) (u .pair) before
   pub bit : r .bit ≡ u .bit
   pub recycled : r .recycled ≡ isRecycled (u .way)
-  pub distance : r .distance ≡ u .distance
+  pub distance : r .«max_contact_distance» ≡ u .maxContactDistance
 
 -- the same of what the words record, under whatever id
 pub record UpdatesAs (u : Pair → Updated) (before after : List ℕ) (r : Outcome) : Type 0 where
@@ -64,7 +64,7 @@ pub record UpdatesAs (u : Pair → Updated) (before after : List ℕ) (r : Outco
 pub record SkippedIs (r : Outcome) : Type 0 where
   pub bit : r .bit ≡ false
   pub recycled : r .recycled ≡ false
-  pub distance : r .distance ≡ zeroF
+  pub distance : r .«max_contact_distance» ≡ zeroF
 
 -- The promise of `update_record`.
 pub record RecordUpdates (s : Settings) (colliders bodies proposal before after : List ℕ) (r : Outcome) : Type 0 where
@@ -90,4 +90,4 @@ pub record StateRenewed (c1 c2 : Collider) (a b : Side) (f : Surface) (given : P
   pub change : r .change ≡ intWord (pos new -ℤ pos old)
   pub cache : cachedOf (r .cache) ≡ cacheOf a b
   pub bit : r .bit ≡ statusBit given (enabled c1 c2 a b) (not (eqb new 0)) (pos new -ℤ pos old)
-  pub distance : r .distance ≡ f .margins ⊕ f .distance
+  pub distance : r .«max_contact_distance» ≡ f .margins ⊕ f .effectiveSpeculative

@@ -61,6 +61,6 @@ pub fn update_contact(
 {
     let o = update_own(s, colliders, bodies, proposals, graph, id);
     set_if(bits, id as usize, o.bit);
-    store_float(distances, id as usize, o.distance);
+    store_float(distances, id as usize, o.max_contact_distance);
     o.recycled
 }

@@ -14,7 +14,7 @@ ghost use Rattle.proposals.specs.Layout.{proposalSize};
 ghost use Rattle.proposals.specs.Range.{Proposed};
 ghost use Rattle.proposals.specs.Recorded.{proposalAt, hookAt};
 ghost use Rattle.contact_update.specs.Updates.{Ready, BelowLimit, UpdatesAs, SkippedIs, RecordUpdates};
-ghost use Rattle.contact_update.specs.Made.{apartUpdate, recycledUpdate, overlapped};
+ghost use Rattle.contact_update.specs.Made.{disjointUpdate, recycledUpdate, overlapped};
 use crate::recycled::recycle_words;
 use crate::renewal::renew;
 use crate::renewal::renew_manifolds;
@@ -45,20 +45,21 @@ use words::row::store_word;
 pub struct Outcome {
     pub bit: bool,
     pub recycled: bool,
-    pub distance: f32,
+    // With the margins; +0 where rule 8 was not reached.
+    pub max_contact_distance: f32,
 }
 
 // Rule 2: the boxes do not overlap, or the layers do not interact.
-fn update_apart(words: &mut [u32]) -> Outcome
+fn update_disjoint(words: &mut [u32]) -> Outcome
     requires { ⌜ length (now words) ≡ contactSize ⌝ }
-    ensures { λ r. ⌜ UpdatesAs apartUpdate (now (words .entry)) (now (words .exit)) r ⌝ }
+    ensures { λ r. ⌜ UpdatesAs disjointUpdate (now (words .entry)) (now (words .exit)) r ⌝ }
 {
     store_word(words, 10, 1);
     store_word(words, 19, 0);
     Outcome {
         bit: true,
         recycled: false,
-        distance: 0.0,
+        max_contact_distance: 0.0,
     }
 }
 
@@ -71,7 +72,7 @@ fn update_recycled(words: &mut [u32], a: Side, b: Side, cache: ContactRecyclingC
     Outcome {
         bit: false,
         recycled: true,
-        distance: 0.0,
+        max_contact_distance: 0.0,
     }
 }
 
@@ -97,7 +98,7 @@ fn update_full(
     Outcome {
         bit: r.bit,
         recycled: false,
-        distance: r.distance,
+        max_contact_distance: r.max_contact_distance,
     }
 }
 
@@ -159,10 +160,10 @@ fn update_between(
 {
     let given = load_float(words, 19);
     if !overlap(c1, c2, given) {
-        return update_apart(words);
+        return update_disjoint(words);
     }
     if !layers_interact(c1, c2) {
-        return update_apart(words);
+        return update_disjoint(words);
     }
     let a = side_at(bodies, c1);
     let b = side_at(bodies, c2);
@@ -176,7 +177,7 @@ fn skipped() -> Outcome
     Outcome {
         bit: false,
         recycled: false,
-        distance: 0.0,
+        max_contact_distance: 0.0,
     }
 }
 

@@ -52,7 +52,7 @@ pub struct Renewal {
     pub change: u32,
     pub cache: ContactRecyclingCache,
     pub bit: bool,
-    pub distance: f32,
+    pub max_contact_distance: f32,
 }
 
 // How many old manifolds the new ones are matched against: none with matching off, or with more than four new ones.
@@ -138,7 +138,7 @@ pub fn renew(
         change: word_of_int(change),
         cache: cache_of(a, b),
         bit: status_bit(flags, enabled, touching, change),
-        distance: f.margins + f.distance,
+        max_contact_distance: f.margins + f.effective_speculative,
     }
 }
 

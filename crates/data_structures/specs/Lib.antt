@@ -4,5 +4,6 @@ pub mod PairKeyLaws
 pub mod BitVec
 pub mod NumberLaws
 pub mod WordLaws
+pub mod SameBitsLaws
 pub mod BitVecLaws
 pub mod LoopLaws

@@ -45,7 +45,7 @@ bit-half w k =
     let e : 1 + k ≡ suc k = omega arith in
     ap (λ (n : ℕ). eqb (n % 2) 1) (ap (λ (m : ℕ). w / 2 ^ m) (sym e) ∙ sym (shr-shr w 1 k))
 
-bit-first : (w : ℕ) → bitOf w 0 ≡ eqb (w % 2) 1
+pub bit-first : (w : ℕ) → bitOf w 0 ≡ eqb (w % 2) 1
 unfolding bitOf
 bit-first w = ap (λ (n : ℕ). eqb (n % 2) 1) (div-one w)
 

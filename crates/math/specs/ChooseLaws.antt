@@ -1,5 +1,6 @@
--- What `maximum` and `minimum` are where an operand is a NaN and where the two are equal, and what a floor on the right ensures. Assumes nothing.
+-- `maximum` and `minimum` are one of their operands: which where one is a NaN and where the two are equal, and what a floor on the right ensures. Assumes nothing.
 use mathlib.Core.Path.{_≡_, refl, sym, subst}
+use mathlib.Core.Logic.{_⊎_, inl, inr}
 use mathlib.Core.Bool.{Bool, true, false, not, cond}
 use Prim.Native.Nat.{ℕ, _+_, _*_, _<_}
 use native.Mathlib.Nat.{mul-pos, lt-of-lt-of-le}
@@ -12,6 +13,20 @@ use lib.Ieee.Positive.{positive, above, first-pos}
 use Rattle.math.specs.Constants.{bits, tiny}
 use Rattle.math.specs.Choose.{maximum, minimum}
 use Rattle.math.specs.Laws.{lt-itself, eq-number, eq-not-lt}
+
+-- ---- a choice is one of its operands
+chosen-one : (a b : Float) (p q : Bool) → (cond p b (cond q b a) ≡ a) ⊎ (cond p b (cond q b a) ≡ b)
+chosen-one a b true q = inr refl
+chosen-one a b false true = inr refl
+chosen-one a b false false = inl refl
+
+pub maximum-one : (a b : Float) → (maximum a b ≡ a) ⊎ (maximum a b ≡ b)
+unfolding maximum
+maximum-one a b = chosen-one a b (isNan a) (lt a b)
+
+pub minimum-one : (a b : Float) → (minimum a b ≡ a) ⊎ (minimum a b ≡ b)
+unfolding minimum
+minimum-one a b = chosen-one a b (isNan a) (lt b a)
 
 -- ---- one NaN is ignored
 pub maximum-of-nan : (b : Float) → maximum nan b ≡ b

@@ -1,11 +1,15 @@
 pub mod Floats
 pub mod Constants
+pub mod ConstantLaws
 pub mod Choose
 pub mod ChooseLaws
 pub mod Root
+pub mod Rooted
 pub mod Vec
 pub mod Quat
 pub mod Mat
 pub mod Pose
 pub mod Laws
-pub mod Cases
+pub mod Fit
+pub mod FitLaws
+pub mod ZeroLaws

@@ -1,10 +1,9 @@
 -- The square root of IEEE 754, rounded to nearest, in natural numbers, in either format. Definitions only.
--- That `rootOf` is the correctly rounded one, `Nearest`, and that there is no other, is `root-nearest` and `root-only` of `proofs/Nearest.antt`. Above this crate it is `root`, shut.
+-- What it must be is said in `Rooted`, without these definitions; that it is that, and the only one, is `root-ieee` and `root-ieee-only` of `proofs/RootLaws.antt`. Above this crate it is `root`, shut.
 use Prim.Native.Nat.{ℕ, zero, suc, _+_, _*_, _/_, _^_, _≤_, _<_}
-use mathlib.Core.Bool.{Bool, true, false, not, cond}
-use lib.Dec.{T, leb, eqb}
-use lib.Ieee.{Float, nan, inf, fin, Format, binary32, low, up, down, size, round, fits}
-use lib.Ieee.Positive.{num, den}
+use mathlib.Core.Bool.{true, false, cond}
+use lib.Dec.{leb, eqb}
+use lib.Ieee.{Float, nan, inf, fin, Format, binary32, low, up, down, size, round}
 
 -- r is the root of n, cut to a whole number
 abbrev pub IsRoot : ℕ → ℕ → Type 0
@@ -47,25 +46,3 @@ rootOf f (fin false (suc m) e) = nearestRoot f (suc m * up e * (2 ^ low f * 2 ^ 
 -- at binary32
 unfoldable pub root : Float → Float
 root x = rootOf binary32 x
-
--- ---- what makes a root the correctly rounded one
--- a number that is not negative, and no infinity
-abbrev pub unsigned : Float → Bool
-unsigned nan = false
-unsigned (inf s) = false
-unsigned (fin s m e) = not s
-
--- With x = v / w, r = a / d and y = b / d: where y is above r, the root of x is below (r + y) / 2, and where y is below r, the root is above that.
--- Either way y is farther from the root than r. There are no real numbers here, so it is said of the squares: 4 * x < (r + y) ^ 2, or the other way round, and the denominators are multiplied out.
-abbrev pub Apart : ℕ → ℕ → ℕ → ℕ → ℕ → Type 0
-Apart v w a b d = (a < b → 4 * v * (d * d) < (a + b) * (a + b) * w) × (b < a → (a + b) * (a + b) * w < 4 * v * (d * d))
-
--- y is r, or farther than r from the root of x, for x, r and y that are finite and not negative
-abbrev pub Farther : Float → Float → Float → Type 0
-Farther x r y = Apart (num x) (den x) (num r * den y) (num y * den r) (den r * den y)
-
--- r is the value of the format f that is nearest to the root of x: it is finite and not negative, and each other such value is farther
-pub record Nearest (f : Format) (x r : Float) : Type 0 where
-  pub held : T (fits f r)
-  pub plain : T (unsigned r)
-  pub others : (y : Float) → T (fits f y) → T (unsigned y) → Farther x r y

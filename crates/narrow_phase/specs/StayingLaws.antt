@@ -6,7 +6,7 @@ use mathlib.Core.List.{List, [], _∷_, _++_, map, map-append}
 use lib.Ieee.{Float}
 use lib.ListN.{length, set}
 use Rattle.rows.specs.Slots.{upto}
-use Rattle.rules.specs.Filtering.{stays, staying, isEmpty, nonEmpty}
+use Rattle.rules.specs.Filtering.{stays, staying, isEmpty, withoutEmpty}
 use Rattle.rules.specs.Inputs.{ProposedPoint, ProposedManifold}
 use Rattle.rules.specs.Records.{Point, Manifold}
 use Rattle.manifold_records.specs.Lists.{map-upto-next}
@@ -59,29 +59,29 @@ module _ (t d : Float) where
       ∙ sym (staying-next f w at k)
 
 -- ---- manifolds
-nonEmpty-append : (a b : List Manifold) → nonEmpty (a ++ b) ≡ nonEmpty a ++ nonEmpty b
-unfolding nonEmpty
-nonEmpty-append [] b = refl
-nonEmpty-append (m ∷ a) b = split (isEmpty (m .points)) (nonEmpty-append a b)
+withoutEmpty-append : (a b : List Manifold) → withoutEmpty (a ++ b) ≡ withoutEmpty a ++ withoutEmpty b
+unfolding withoutEmpty
+withoutEmpty-append [] b = refl
+withoutEmpty-append (m ∷ a) b = split (isEmpty (m .points)) (withoutEmpty-append a b)
   where
-    split : (c : Bool) → nonEmpty (a ++ b) ≡ nonEmpty a ++ nonEmpty b → cond c (nonEmpty (a ++ b)) (m ∷ nonEmpty (a ++ b)) ≡ cond c (nonEmpty a) (m ∷ nonEmpty a) ++ nonEmpty b
+    split : (c : Bool) → withoutEmpty (a ++ b) ≡ withoutEmpty a ++ withoutEmpty b → cond c (withoutEmpty (a ++ b)) (m ∷ withoutEmpty (a ++ b)) ≡ cond c (withoutEmpty a) (m ∷ withoutEmpty a) ++ withoutEmpty b
     split true e = e
     split false e = ap (λ l. m ∷ l) e
 
-nonEmpty-one : (m : Manifold) → nonEmpty (m ∷ []) ≡ cond (not (isEmpty (m .points))) (m ∷ []) []
-unfolding nonEmpty
-nonEmpty-one m = split (isEmpty (m .points))
+withoutEmpty-one : (m : Manifold) → withoutEmpty (m ∷ []) ≡ cond (not (isEmpty (m .points))) (m ∷ []) []
+unfolding withoutEmpty
+withoutEmpty-one m = split (isEmpty (m .points))
   where
     split : (c : Bool) → cond c [] (m ∷ []) ≡ cond (not c) (m ∷ []) []
     split true = refl
     split false = refl
 
 -- one more proposed manifold, if it has points left
-pub nonEmpty-next : (f : ProposedManifold → Manifold) (h : ℕ → ProposedManifold) (k : ℕ)
-    → nonEmpty (map f (map h (upto (k + 1)))) ≡ nonEmpty (map f (map h (upto k))) ++ cond (not (isEmpty (f (h k) .points))) (f (h k) ∷ []) []
-nonEmpty-next f h k =
+pub withoutEmpty-next : (f : ProposedManifold → Manifold) (h : ℕ → ProposedManifold) (k : ℕ)
+    → withoutEmpty (map f (map h (upto (k + 1)))) ≡ withoutEmpty (map f (map h (upto k))) ++ cond (not (isEmpty (f (h k) .points))) (f (h k) ∷ []) []
+withoutEmpty-next f h k =
     let before = map h (upto k) in
-    ap (λ r. nonEmpty (map f r)) (map-upto-next h k)
-    ∙ ap nonEmpty (map-append f before (h k ∷ []))
-    ∙ nonEmpty-append (map f before) (f (h k) ∷ [])
-    ∙ ap (λ r. nonEmpty (map f before) ++ r) (nonEmpty-one (f (h k)))
+    ap (λ r. withoutEmpty (map f r)) (map-upto-next h k)
+    ∙ ap withoutEmpty (map-append f before (h k ∷ []))
+    ∙ withoutEmpty-append (map f before) (f (h k) ∷ [])
+    ∙ ap (λ r. withoutEmpty (map f before) ++ r) (withoutEmpty-one (f (h k)))

@@ -15,7 +15,7 @@ use Rattle.rows.specs.Rows.{put, each}
 use Rattle.rows.specs.Laws.{length-put, put-next, put-comm}
 use Rattle.rows.specs.EachLaws.{each-append, length-each}
 use Rattle.rows.specs.Slots.{upto}
-use Rattle.rules.specs.Filtering.{movedPoint, stays, staying, pruned, filtered, isEmpty, nonEmpty}
+use Rattle.rules.specs.Filtering.{movedPoint, stays, staying, pruned, filtered, isEmpty, withoutEmpty}
 use Rattle.rules.specs.Inputs.{ProposedPoint, ProposedManifold}
 use Rattle.rules.specs.Records.{Point, Manifold}
 use Rattle.rules.specs.Sides as sides
@@ -35,7 +35,7 @@ use Rattle.contact_types.specs.declared.contact_point.ContactPoint.{ContactPoin
 use Rattle.proposals.specs.Layout as place
 use Rattle.proposals.specs.Recorded.{proposedPointAt, proposedPointsAt, proposedManifoldAt, proposalAt}
 use Rattle.narrow_phase.specs.ListLaws.{length-view}
-use Rattle.narrow_phase.specs.StayingLaws.{staying-next, nonEmpty-next}
+use Rattle.narrow_phase.specs.StayingLaws.{staying-next, withoutEmpty-next}
 use Rattle.narrow_phase.specs.Views.{firstPoints, PrunedTo, PointsStored, ManifoldStored, ManifoldsStored}
 use Rattle.narrow_phase.specs.declared.manifold.ManifoldPoints.{ManifoldPoints}
 
@@ -134,7 +134,7 @@ whole-stored m at xs {ys} {zs} {us} {c} p z u =
 
 module _ (w : List ℕ) (from : ℕ) (t : Float) (a b : Side) (f : Surface) (at : ℕ) (xs : List ℕ) {n : ℕ} {normal : Vec3} {ys : List ℕ} {c : ℕ}
     (counted : n ≡ wordAt w from) (read : normal ≡ vec3At w (from + place.normalPlace))
-    (stored : PointsStored (pruned normal (staying t (f .distance) (map (movedPoint (plainSide a) (plainSide b) (f .margins) normal) (proposedPointsAt w (from + place.pointsPlace) n)))) (at + 9) xs ys c) where
+    (stored : PointsStored (pruned normal (staying t (f .«effective_speculative») (map (movedPoint (plainSide a) (plainSide b) (f .margins) normal) (proposedPointsAt w (from + place.pointsPlace) n)))) (at + 9) xs ys c) where
   abbrev left : Manifold
   left = filtered t (plainSide a) (plainSide b) (plainSurface f) (proposedManifoldAt w from)
 
@@ -142,7 +142,7 @@ module _ (w : List ℕ) (from : ℕ) (t : Float) (a b : Side) (f : Surface) (at 
   unfolding filtered proposedManifoldAt
   points-left =
       subst (λ (ps : List Point). PointsStored ps (at + 9) xs ys c)
-      (λ j. pruned (read j) (staying t (f .distance) (map (movedPoint (plainSide a) (plainSide b) (f .margins) (read j)) (proposedPointsAt w (from + place.pointsPlace) (counted j))))) stored
+      (λ j. pruned (read j) (staying t (f .«effective_speculative») (map (movedPoint (plainSide a) (plainSide b) (f .margins) (read j)) (proposedPointsAt w (from + place.pointsPlace) (counted j))))) stored
 
   -- no point is left
   pub manifold-empty : c ≡ 0 → ManifoldStored left at xs ys 0
@@ -169,12 +169,12 @@ module _ (w : List ℕ) (from : ℕ) (t : Float) (a b : Side) (f : Surface) (at 
 
 -- ---- manifolds
 module _ (f : ProposedManifold → Manifold) (h : ℕ → ProposedManifold) (k : ℕ) (xs : List ℕ) (at c : ℕ) {ys zs : List ℕ} {r : ℕ}
-    (before : ManifoldsStored (nonEmpty (map f (map h (upto k)))) at xs ys c) (this : ManifoldStored (f (h k)) (at + c * 81) ys zs r) where
+    (before : ManifoldsStored (withoutEmpty (map f (map h (upto k)))) at xs ys c) (this : ManifoldStored (f (h k)) (at + c * 81) ys zs r) where
   abbrev kept : ℕ → List Manifold
-  kept k = nonEmpty (map f (map h (upto k)))
+  kept k = withoutEmpty (map f (map h (upto k)))
 
   runs-on : (s : Bool) → isEmpty (f (h k) .points) ≡ s → (zs ≡ cond s ys (put ys (at + c * 81) (manifoldWords (f (h k))))) × (kept (k + 1) ≡ kept k ++ cond (not s) (f (h k) ∷ []) [])
-  runs-on s e = (this .words ∙ ap (λ (q : Bool). cond q ys (put ys (at + c * 81) (manifoldWords (f (h k))))) e, nonEmpty-next f h k ∙ ap (λ (q : Bool). kept k ++ cond (not q) (f (h k) ∷ []) []) e)
+  runs-on s e = (this .words ∙ ap (λ (q : Bool). cond q ys (put ys (at + c * 81) (manifoldWords (f (h k))))) e, withoutEmpty-next f h k ∙ ap (λ (q : Bool). kept k ++ cond (not q) (f (h k) ∷ []) []) e)
 
   -- the manifold has points, and is one more
   pub manifold-counts : {n : ℕ} → (r ≡ 0 → ⊥) → c < 6 → n ≡ c + 1 → ManifoldsStored (kept (k + 1)) at xs zs n
@@ -199,10 +199,10 @@ manifolds-length {ms} {at} {xs} p = ap length (p .words) ∙ length-put xs at (e
 
 -- all that are proposed
 pub all-stored : (w : List ℕ) (f : ProposedManifold → Manifold) {n : ℕ} {at : ℕ} {xs ys : List ℕ} {c : ℕ} → n ≡ wordAt w place.countPlace
-    → ManifoldsStored (nonEmpty (map f (map (λ j. proposedManifoldAt w (place.manifoldsPlace + j * place.manifoldSize)) (upto n)))) at xs ys c → ManifoldsStored (nonEmpty (map f (proposalAt w 0))) at xs ys c
+    → ManifoldsStored (withoutEmpty (map f (map (λ j. proposedManifoldAt w (place.manifoldsPlace + j * place.manifoldSize)) (upto n)))) at xs ys c → ManifoldsStored (withoutEmpty (map f (proposalAt w 0))) at xs ys c
 unfolding proposalAt
 all-stored w f {n} {at} {xs} {ys} {c} e =
-    subst (λ (m : ℕ). ManifoldsStored (nonEmpty (map f (map (λ j. proposedManifoldAt w (place.manifoldsPlace + j * place.manifoldSize)) (upto m)))) at xs ys c) e
+    subst (λ (m : ℕ). ManifoldsStored (withoutEmpty (map f (map (λ j. proposedManifoldAt w (place.manifoldsPlace + j * place.manifoldSize)) (upto m)))) at xs ys c) e
 
 -- ---- the hook's answer
 module _ (t : Float) (a b : sides.Side) (f : surfaces.Surface) (answer : Bool) (proposal : List ProposedManifold) (at : ℕ) (xs : List ℕ) {h : Bool} (asked : h ≡ answer) where
@@ -213,7 +213,7 @@ module _ (t : Float) (a b : sides.Side) (f : surfaces.Surface) (answer : Bool) (
       let e : answer ≡ false = sym asked ∙ not-true h n in
       record { words = rw (m, e); count = rw (m, e); few = omega arith }
 
-  module _ {ys : List ℕ} {c : ℕ} (made : ManifoldsStored (nonEmpty (map (filtered t a b f) proposal)) at xs ys c) where
+  module _ {ys : List ℕ} {c : ℕ} (made : ManifoldsStored (withoutEmpty (map (filtered t a b f) proposal)) at xs ys c) where
     -- a pair that is not marked, and yes
     pub hook-unmarked : {modify : Bool} → modify ≡ false → ManifoldsStored (remaining t a b f modify answer proposal) at xs ys c
     unfolding remaining hooked

@@ -5,7 +5,7 @@ ghost use mathlib.Core.List.{[], _∷_, _++_, map};
 ghost use Prim.Native.Nat.{_+_, _≤_};
 ghost use lib.ListN.{length};
 ghost use Rattle.math.specs.Vec.{zero3};
-ghost use Rattle.rules.specs.Filtering.{movedPoint, staying, prunePoint, pruned, filtered, nonEmpty};
+ghost use Rattle.rules.specs.Filtering.{movedPoint, staying, prunePoint, pruned, filtered, withoutEmpty};
 ghost use Rattle.rules.specs.Update.{remaining};
 ghost use Rattle.words.specs.Words.{wordAt, floatWord, vec3Words};
 ghost use Rattle.collider.specs.Views.{plainSide};
@@ -120,10 +120,10 @@ fn kept_points(
     f: Surface,
 ) -> ManifoldPoints
     requires { ⌜ (n ≤ 32) × (at + 384 ≤ length (now words)) ⌝ }
-    ensures { λ r. ⌜ PrunedTo (pruned normal (staying «step_time» (f .distance) (map (movedPoint (plainSide a) (plainSide b) (f .margins) normal) (proposedPointsAt (now (words .entry)) at n)))) r ⌝ }
+    ensures { λ r. ⌜ PrunedTo (pruned normal (staying «step_time» (f .«effective_speculative») (map (movedPoint (plainSide a) (plainSide b) (f .margins) normal) (proposedPointsAt (now (words .entry)) at n)))) r ⌝ }
 {
     let margins = f.margins;
-    let distance = f.distance;
+    let distance = f.effective_speculative;
     let none = ContactPoint::new(Vec3::ZERO, Vec3::ZERO, Vec3::ZERO, 0.0);
     let unseen = prune_point(none);
     let mut points = [none; 32];
@@ -163,10 +163,10 @@ fn store_few(
     to: usize,
 ) -> usize
     requires { ⌜ (n ≤ 4) × (at + 384 ≤ length (now proposal)) × (to + 72 ≤ length (now words)) ⌝ }
-    ensures { λ r. ⌜ PointsStored (pruned normal (staying «step_time» (f .distance) (map (movedPoint (plainSide a) (plainSide b) (f .margins) normal) (proposedPointsAt (now (proposal .entry)) at n)))) to (now (words .entry)) (now (words .exit)) r ⌝ }
+    ensures { λ r. ⌜ PointsStored (pruned normal (staying «step_time» (f .«effective_speculative») (map (movedPoint (plainSide a) (plainSide b) (f .margins) normal) (proposedPointsAt (now (proposal .entry)) at n)))) to (now (words .entry)) (now (words .exit)) r ⌝ }
 {
     let margins = f.margins;
-    let distance = f.distance;
+    let distance = f.effective_speculative;
     let mut count: usize = 0;
     let mut k = 0;
     while k < n {
@@ -194,7 +194,7 @@ fn store_left(
     to: usize,
 ) -> usize
     requires { ⌜ (n ≤ 32) × (at + 384 ≤ length (now proposal)) × (to + 72 ≤ length (now words)) ⌝ }
-    ensures { λ r. ⌜ PointsStored (pruned normal (staying «step_time» (f .distance) (map (movedPoint (plainSide a) (plainSide b) (f .margins) normal) (proposedPointsAt (now (proposal .entry)) at n)))) to (now (words .entry)) (now (words .exit)) r ⌝ }
+    ensures { λ r. ⌜ PointsStored (pruned normal (staying «step_time» (f .«effective_speculative») (map (movedPoint (plainSide a) (plainSide b) (f .margins) normal) (proposedPointsAt (now (proposal .entry)) at n)))) to (now (words .entry)) (now (words .exit)) r ⌝ }
 {
     if n <= 4 {
         return store_few(proposal, at, n, normal, step_time, a, b, f, words, to);
@@ -260,7 +260,7 @@ fn store_new(
     to: usize,
 ) -> usize
     requires { ⌜ (length (now proposal) ≡ proposalSize) × Proposed (now proposal) 0 × (to + 486 ≤ length (now words)) ⌝ }
-    ensures { λ r. ⌜ ManifoldsStored (nonEmpty (map (filtered «step_time» (plainSide a) (plainSide b) (plainSurface f)) (proposalAt (now (proposal .entry)) 0))) to (now (words .entry)) (now (words .exit)) r ⌝ }
+    ensures { λ r. ⌜ ManifoldsStored (withoutEmpty (map (filtered «step_time» (plainSide a) (plainSide b) (plainSurface f)) (proposalAt (now (proposal .entry)) 0))) to (now (words .entry)) (now (words .exit)) r ⌝ }
 {
     let n = load_word(proposal, COUNT_PLACE) as usize;
     let mut count: usize = 0;

@@ -18,14 +18,14 @@ abbrev pub pointOf : List ℕ → PrunePoint
 pointOf words = record { anchor1 = vec3At words 0; penetration = floatAt words 3 }
 
 -- refusal 1 if the text is unreadable, 8 if it has too few points, 6 if it has too many
-unfoldable pub listingAnswer : Option Listing → Answer
+unfoldable pub listingAnswer : Option Listing → Answer (List ℕ)
 listingAnswer none = refused 1
 listingAnswer (some l) =
     let count : ℕ = length (l .points) in
     cond (ltb count 5) (refused 8) (cond (ltb 32 count) (refused 6) (keeps (kept (vec3At (l .normal) 0) count (λ k. pointOf (getD (l .points) k [])))))
 
 -- R and the number, or a line K for each kept number
-abbrev pub linesOf : Answer → List ℕ
+abbrev pub linesOf : Answer (List ℕ) → List ℕ
 linesOf (refused n) = refusedLine n
 linesOf (keeps numbers) = each keptLine numbers
 

@@ -16,7 +16,8 @@ use Rattle.math.specs.declared.vec.Vec3.{Vec3}
 use Rattle.rules.specs.Pruning as rules
 use Rattle.contact_types.specs.Refusals.{numberOf}
 use Rattle.contact_types.specs.Pruned.{keptOf}
-use Rattle.contact_types.specs.Prune.{prunePointAt, refused, keeps, pruneAnswer, answerOf, Pruned}
+use Rattle.contact_types.specs.Prune.{prunePointAt, refused, keeps, pruneAnswer, Pruned}
+use Rattle.contact_types.specs.PruneLaws.{plainAnswer, pruned-plain}
 use Rattle.contact_types.specs.declared.refusal.Refusal.{Refusal}
 use Rattle.contact_types.specs.declared.refusal.Refusal.the-variants.{WrongLength, OutOfRange, SameCollider, PairExists, GraphFull, ProposalTooLarge, InvalidShares, TooFewPoints, NoContact}
 use Rattle.contact_types.specs.declared.prune.PruneAnswer.{PruneAnswer}
@@ -37,7 +38,7 @@ abbrev zeros : List ℕ
 zeros = replicate 128 0
 
 -- an unreadable text
-pub unreadable-answer : (text : List ℕ) {row : List ℕ} {r : Reading} → ListingRead text zeros row r → r ≡ Unreadable → answerText text ≡ linesOf (answerOf (Refused WrongLength))
+pub unreadable-answer : (text : List ℕ) {row : List ℕ} {r : Reading} → ListingRead text zeros row r → r ≡ Unreadable → answerText text ≡ linesOf (plainAnswer (Refused WrongLength))
 unfolding answerText listingAnswer
 unreadable-answer text {row} {r} w e = refused-one (listing text) (sym e ∙ w .answer)
   where
@@ -64,10 +65,10 @@ read-answer text {row} {r} h w e = found (listing text) refl (sym e ∙ w .answe
         ∙ row-answer l (listing-shape text l p .fours)
 
 pub pruned-answer : (text : List ℕ) {row : List ℕ} {r : Reading} (h : Header) (normal : Vec3) {a b : PruneAnswer} → ListingRead text zeros row r → r ≡ Read h → normal ≡ normalOf h
-    → Pruned normal row (h .count) a → a ≡ b → answerText text ≡ linesOf (answerOf b)
+    → Pruned normal row (h .count) a → a ≡ b → answerText text ≡ linesOf (plainAnswer b)
 unfolding answerText
 pruned-answer text {row} h normal {a} {b} w e n p q =
-    sym (ap linesOf (ap answerOf (sym q) ∙ p .answer ∙ ap (λ (v : Vec3). pruneAnswer v row (h .count)) n ∙ read-answer text h w e))
+    sym (ap linesOf (ap plainAnswer (sym q) ∙ pruned-plain p ∙ ap (λ (v : Vec3). pruneAnswer v row (h .count)) n ∙ read-answer text h w e))
 
 -- ---- the answer is short
 
@@ -78,16 +79,16 @@ lines-short (n ∷ ns) =
     let b = length-append (decimal n) (10 ∷ []) in
     omega (arith, lines-short ns, decimal-short n)
 
-answer-short : (a : PruneAnswer) → length (linesOf (answerOf a)) ≤ 24
+answer-short : (a : PruneAnswer) → length (linesOf (plainAnswer a)) ≤ 24
 answer-short (Kept k) =
     let four : List ℕ = k .first ∷ k .second ∷ k .third ∷ k .fourth ∷ [] in
     omega (arith, lines-short (keptOf k), length-take (k .count) four)
 answer-short (Refused r) = omega (arith, decimal-short (numberOf r), length-append (decimal (numberOf r)) (10 ∷ []))
 
 -- the lines of an answer that are those of the text
-pub answered : (text out : List ℕ) (a : PruneAnswer) {out′ : List ℕ} {n : ℕ} → 24 ≤ length out → answerText text ≡ linesOf (answerOf a) → Written out 0 (linesOf (answerOf a)) out′ n → Answered text out out′ n
+pub answered : (text out : List ℕ) (a : PruneAnswer) {out′ : List ℕ} {n : ℕ} → 24 ≤ length out → answerText text ≡ linesOf (plainAnswer a) → Written out 0 (linesOf (plainAnswer a)) out′ n → Answered text out out′ n
 answered text out a {out′} {n} h e w =
-    let l = ap length (w .stored) ∙ length-put out 0 (linesOf (answerOf a)) in
+    let l = ap length (w .stored) ∙ length-put out 0 (linesOf (plainAnswer a)) in
     let f : n ≤ length out′ = omega (arith, w .count, answer-short a) in
     record { written = rw e w; fits = f; counted = sym (length-take-le n out′ f) }
 
@@ -115,3 +116,8 @@ number-small ProposalTooLarge = omega arith
 number-small InvalidShares = omega arith
 number-small TooFewPoints = omega arith
 number-small NoContact = omega arith
+
+-- ---- the promise determines how many bytes there are, and every lent byte
+
+pub answer-determined : (text out : List ℕ) {out′ out″ : List ℕ} {r r′ : ℕ} → Answered text out out′ r → Answered text out out″ r′ → (r′ ≡ r) × (out″ ≡ out′)
+answer-determined text out p q = (q .written .count ∙ sym (p .written .count), q .written .stored ∙ sym (p .written .stored))

@@ -72,3 +72,7 @@ read-length xs row row′ r w = ap length (w .stored) ∙ kept (listing xs)
     kept : (o : Option Listing) → length (pointsOf row o) ≡ length row
     kept none = refl
     kept (some l) = length-put row 0 (each (λ words. words) (take room (l .points)))
+
+-- the promise determines the answer and every lent word
+pub read-listing-determined : (text row : List ℕ) {row′ row″ : List ℕ} {r r′ : Reading} → ListingRead text row row′ r → ListingRead text row row″ r′ → (r′ ≡ r) × (row″ ≡ row′)
+read-listing-determined text row p q = (q .answer ∙ sym (p .answer), q .stored ∙ sym (p .stored))

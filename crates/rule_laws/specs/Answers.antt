@@ -14,13 +14,13 @@ use Rattle.rules.specs.Records.{Pair, Names}
 use Rattle.rules.specs.Update.{updated}
 use Rattle.rules.specs.Graph.{Graph, emptyGraph, plainAdd, newId}
 use Rattle.rules.specs.Status.{Change, start, stopIf, countOf, plainStep}
-use Rattle.rules.specs.Runs.{Held, holding, manifoldsOf, replayOne, replay, afterUpdates, Entry, addition, stepping, impulses, Answer, added, stepped, silent, After, unlessRefused, plainCall, plainRun, plainGraph, replayAnswer, replayAnswers, namesBoth, keepsGenerating, ProvisosAt, Provisos, Room, AnswersReplayHolds}
+use Rattle.rules.specs.Runs.{Held, holding, manifoldsOf, replayOne, replay, Entry, addition, stepping, impulses, Answer, added, stepped, silent, After, unlessRefused, plainCall, plainRun, plainGraph, replayAnswer, replayAnswers, namesBoth, keepsGenerating, ProvisosAt, Provisos, Room, AnswersReplayHolds}
 use Rattle.rule_laws.specs.Lookup.{find, mapped, find-id, find-map}
-use Rattle.rule_laws.specs.Visit.{Verdict, vanishes, starts, stops, generates, recounts, stands, verdict, next, say, saying}
+use Rattle.rule_laws.specs.Visit.{Verdict, vanishes, starts, stops, generates, recounts, persists, verdict, next, changesFor, visitChanges}
 use Rattle.rule_laws.specs.Passing.{naming}
 use Rattle.rule_laws.specs.Outcome.{names-kept}
 use Rattle.rule_laws.specs.Settling.{outcomeOf}
-use Rattle.rule_laws.specs.Replay.{Sound, Holds, heldIn-at, countAt, manifoldsOf-find, passEnd, step-graph, step-changes, pass, bits, end-find, end-heard, step-holds, holds-added, write-holds, call-sound, empty-sound, empty-holds}
+use Rattle.rule_laws.specs.Replay.{afterUpdates, Sound, Holds, heldIn-at, countAt, manifoldsOf-find, passEnd, step-graph, step-changes, pass, bits, end-find, end-replayed, step-holds, holds-added, writes-hold, call-sound, empty-sound, empty-holds}
 
 -- ---- which list the numbers are read in
 
@@ -47,18 +47,18 @@ module _ (ps qs : List Pair) (h : Held) (k id c d : ℕ) where
 abbrev sizeOf : Option Pair → Option ℕ
 sizeOf o = mapped (λ (p : Pair). length (p .manifolds)) o
 
-say-either : (ps qs : List Pair) (h : Held) (k : ℕ) (v : Verdict) (p : Pair) →
-    (sizeOf (next v p) ≡ some (length (p .manifolds)) → manifoldsOf (p .names .id) ps ≡ manifoldsOf (p .names .id) qs) → replay ps (say v p) h k ≡ replay qs (say v p) h k
+changesFor-either : (ps qs : List Pair) (h : Held) (k : ℕ) (v : Verdict) (p : Pair) →
+    (sizeOf (next v p) ≡ some (length (p .manifolds)) → manifoldsOf (p .names .id) ps ≡ manifoldsOf (p .names .id) qs) → replay ps (changesFor v p) h k ≡ replay qs (changesFor v p) h k
 unfolding replay
-say-either ps qs h k vanishes p f =
+changesFor-either ps qs h k vanishes p f =
     stop-either ps qs h k (p .names .id) (p .names .collider1) (p .names .collider2) (p .flags .generateConstraints) (p .names .body1) (p .names .body2)
-say-either ps qs h k starts p f = start-either ps qs h k (p .names .id) (p .names .collider1) (p .names .collider2) (p .flags .generateConstraints) (f refl)
-say-either ps qs h k stops p f =
+changesFor-either ps qs h k starts p f = start-either ps qs h k (p .names .id) (p .names .collider1) (p .names .collider2) (p .flags .generateConstraints) (f refl)
+changesFor-either ps qs h k stops p f =
     stop-either ps qs h k (p .names .id) (p .names .collider1) (p .names .collider2) (p .flags .generateConstraints) (p .names .body1) (p .names .body2)
-say-either ps qs h k generates p f = start-either ps qs h k (p .names .id) (p .names .collider1) (p .names .collider2) true (f refl)
-say-either ps qs h k recounts p f =
+changesFor-either ps qs h k generates p f = start-either ps qs h k (p .names .id) (p .names .collider1) (p .names .collider2) true (f refl)
+changesFor-either ps qs h k recounts p f =
     count-either ps qs h k (p .names .id) (p .names .collider1) (p .names .collider2) (p .countChange) (p .names .body1) (p .names .body2)
-say-either ps qs h k stands p f = refl
+changesFor-either ps qs h k persists p f = refl
 
 size-count : (o : Option Pair) (n : ℕ) → sizeOf o ≡ some n → countAt o ≡ pos n
 size-count none n e = absurd (let z : _≡_ {A = ℕ} 0 1 = cc in omega arith)
@@ -68,12 +68,12 @@ module _ (i : Inputs) (g : Graph) (s : Sound g) (h : Held) where
   -- a pair that is found, by whether its bit stands
   either-some : (p : Pair) → find (p .names .id) (g .pairs) ≡ some p → (t : Bool) →
       find (p .names .id) (passEnd i g .graph .pairs) ≡ outcomeOf (updated i p .pair) t →
-      cond t (replay (afterUpdates i g) (saying (some (updated i p .pair))) h (p .names .id)) (h (p .names .id))
-      ≡ cond t (replay (passEnd i g .graph .pairs) (saying (some (updated i p .pair))) h (p .names .id)) (h (p .names .id))
+      cond t (replay (afterUpdates i g) (visitChanges (some (updated i p .pair))) h (p .names .id)) (h (p .names .id))
+      ≡ cond t (replay (passEnd i g .graph .pairs) (visitChanges (some (updated i p .pair))) h (p .names .id)) (h (p .names .id))
   either-some p e false f = refl
   either-some p e true f =
       let q = updated i p .pair in
-      say-either (afterUpdates i g) (passEnd i g .graph .pairs) h (p .names .id) (verdict q) q
+      changesFor-either (afterUpdates i g) (passEnd i g .graph .pairs) h (p .names .id) (verdict q) q
       (λ x. ap (λ (n : Names). manifoldsOf (n .id) (afterUpdates i g)) (names-kept i p)
       ∙ manifoldsOf-find (p .names .id) (afterUpdates i g)
       ∙ ap countAt (find-map (λ (p : Pair). updated i p .pair) (names-kept i) (p .names .id) (g .pairs) ∙ ap (mapped (λ (p : Pair). updated i p .pair)) e)
@@ -91,9 +91,9 @@ module _ (i : Inputs) (g : Graph) (s : Sound g) (h : Held) where
           let e' : find (p .names .id) (g .pairs) ≡ some p = ap (λ (k : ℕ). find k (g .pairs)) n ∙ e in
           let z = bits i g s (p .names .id) (some p) e' in
           subst (λ (k : ℕ). replay (afterUpdates i g) (passEnd i g .changes) h k ≡ replay (passEnd i g .graph .pairs) (passEnd i g .changes) h k) n
-          (end-heard i g s (afterUpdates i g) h (p .names .id) p e' (updated i p .bit) z
+          (end-replayed i g s (afterUpdates i g) h (p .names .id) p e' (updated i p .bit) z
           ∙ either-some p e' (updated i p .bit) (end-find i g s (p .names .id) p e' (updated i p .bit) z)
-          ∙ sym (end-heard i g s (passEnd i g .graph .pairs) h (p .names .id) p e' (updated i p .bit) z))
+          ∙ sym (end-replayed i g s (passEnd i g .graph .pairs) h (p .names .id) p e' (updated i p .bit) z))
 
   -- the numbers read after the step are those read before the pass
   pub step-either : (k : ℕ) → replay (plainStep i g .graph .pairs) (plainStep i g .changes) h k ≡ replay (afterUpdates i g) (plainStep i g .changes) h k
@@ -122,7 +122,7 @@ unfolding plainCall replayAnswer ProvisosAt
 call-answers (addition r a) g h s w p k =
     ap (λ (f : Held). f k) (added-answer (r g) g (record { graph = plainAdd a g; answer = added (newId g) }) (newId g) h refl) ∙ holds-added a g h (added (newId g)) w (r g) k
 call-answers (stepping r i) g h s w p k = holds-answered i g h s w (r g) p k
-call-answers (impulses v) g h s w p k = write-holds v g h w k
+call-answers (impulses ws) g h s w p k = writes-hold ws g h w k
 
 pub run-answers : (es : List Entry) (g : Graph) (h : Held) → Sound g → Holds g h → Provisos es g → Room es g → Holds (plainGraph es g) (replayAnswers (plainRun es g) h)
 unfolding plainGraph plainRun replayAnswers Provisos Room

@@ -2,6 +2,8 @@ pub mod NumberLaws
 pub mod MatchingLaws
 pub mod PruningLaws
 pub mod Cases
+pub mod Stripped
+pub mod SolverLaws
 pub mod Lookup
 pub mod Visit
 pub mod Passing

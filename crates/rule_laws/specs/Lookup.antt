@@ -9,7 +9,7 @@ use native.Mathlib.Omega.{arith}
 use lib.Dec.{eqb, T, eqb→eq, eqb-refl}
 use lib.ListN.{length, getD, take, set, length-append}
 use Rattle.rules.specs.Records.{Pair, Names}
-use Rattle.rules.specs.Graph.{position, swapRemove}
+use Rattle.rules.specs.Graph.{pairIndex, swapRemove}
 
 -- a test of two numbers, with what it says
 pub data Test (x y : ℕ) : Bool → Type 0 where
@@ -230,11 +230,11 @@ swapRemove-at xs p d ys = removing xs p d ys (length (xs ++ p ∷ ys) - 1) (omeg
 -- ---- where an id stands
 
 pub data Place (k : ℕ) (ps : List Pair) : Type 0 where
-  missing : position k ps ≡ none → find k ps ≡ none → Place k ps
-  found : (xs : List Pair) (p : Pair) (ys : List Pair) → ps ≡ xs ++ p ∷ ys → p .names .id ≡ k → position k ps ≡ some (length xs) → find k ps ≡ some p → Place k ps
+  missing : pairIndex k ps ≡ none → find k ps ≡ none → Place k ps
+  found : (xs : List Pair) (p : Pair) (ys : List Pair) → ps ≡ xs ++ p ∷ ys → p .names .id ≡ k → pairIndex k ps ≡ some (length xs) → find k ps ≡ some p → Place k ps
 
 pub place : (k : ℕ) (ps : List Pair) → Place k ps
-unfolding position find
+unfolding pairIndex find
 place k [] = missing refl refl
 place k (p ∷ ps) = go (eqb (p .names .id) k) (test (p .names .id) k) refl (place k ps)
   where

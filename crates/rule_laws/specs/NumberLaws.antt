@@ -4,12 +4,13 @@ use native.Mathlib.Nat.{not-suc-le-zero, eq-or-lt-of-le}
 use native.Mathlib.Numerals.{add-one}
 use native.Mathlib.Omega.{arith}
 use mathlib.Core.Path.{_≡_, refl, sym, ap, subst, _∙_}
-use mathlib.Core.Logic.{_⊎_, inl, inr}
+use mathlib.Core.Logic.{_⊎_, inl, inr, ⊎-elim}
 use mathlib.Core.Bool.{Bool, true, false, cond, _&&_, _||_}
 use mathlib.Core.Option.{Option, none, some}
 use lib.Dec.{T}
-use lib.Ieee.{Float}
-use Rattle.rules.specs.Numbers.{else, first, Leading, Better, overtaken, leader, every, any}
+use lib.Ieee.{Float, isNan}
+use Rattle.math.specs.Laws.{lt-itself, lt-through, lt-either, lt-numbers}
+use Rattle.rules.specs.Numbers.{else, first, Leading, Better, greater, less, overtaken, leader, every, any}
 
 -- a search found a number
 abbrev pub Found : Option ℕ → Type 0
@@ -18,6 +19,22 @@ Found o = (i : ℕ) × (o ≡ some i)
 first-part : (a b : Bool) → a && b ≡ true → a ≡ true
 first-part true b e = refl
 first-part false b e = e
+
+second-part : (a b : Bool) → a && b ≡ true → b ≡ true
+second-part true b e = e
+second-part false b e = absurd (subst T (sym e) tt)
+
+not-second : (a b : Bool) → b ≡ false → a && b ≡ false
+not-second true b e = e
+not-second false b e = refl
+
+-- a test is false where it can't be true
+refuted : (b : Bool) → (b ≡ true → ⊥) → b ≡ false
+refuted true f = absurd (f refl)
+refuted false f = refl
+
+clash : {b : Bool} → b ≡ true → b ≡ false → ⊥
+clash p q = subst T (sym p ∙ q) tt
 
 -- ---- the first that passes
 module _ (test : ℕ → Bool) where
@@ -124,6 +141,141 @@ module _ (better : Better) (value : ℕ → Float) (among : ℕ → Bool) (start
         | inr s ↦ found-step m b l (leader-exists m k s a (λ i g. f i (omega arith)))
       ]
 
+  -- who leads keeps the lead where no later value is better
+  pub leader-stands : (k n : ℕ) {l : Leading} → leader better value among start k ≡ l → ((i : ℕ) → k ≤ i → better (value i) (l .value) ≡ false) → k ≤ n → leader better value among start n ≡ l
+  unfolding leader
+  leader-stands k zero {l} e f h = subst (λ (m : ℕ). leader better value among start m ≡ l) (let z : k ≡ 0 = omega arith in z) e
+  leader-stands k (suc m) {l} e f h =
+      elim (eq-or-lt-of-le h) [
+        | inl q ↦ subst (λ (m : ℕ). leader better value among start m ≡ l) q e
+        | inr s ↦
+            ap (overtaken better value among m) (leader-stands k m e f (omega arith))
+            ∙ ap (λ (b : Bool). cond b (record { value = value m; who = some m }) l) (not-second (among m) (better (value m) (l .value)) (f m (omega arith)))
+      ]
+
+-- ---- who leads is the earliest of the best
+-- what the search needs of `better`: an order of the numbers, in which equals may stand side by side, and a NaN is not better than anything
+pub record Ranks (better : Better) : Type 0 where
+  pub never-itself : (a : Float) → better a a ≡ false
+  pub through : (a b c : Float) → better a b ≡ true → better b c ≡ true → better a c ≡ true
+  pub either : (a b c : Float) → isNan b ≡ false → better a c ≡ true → (better a b ≡ true) ⊎ (better b c ≡ true)
+  pub number : (a b : Float) → better a b ≡ true → isNan a ≡ false
+
+pub less-ranks : Ranks less
+less-ranks = record { never-itself = lt-itself; through = lt-through; either = lt-either; number = λ a b h. lt-numbers a b h .0 }
+
+pub greater-ranks : Ranks greater
+greater-ranks =
+    record {
+      never-itself = lt-itself;
+      through = λ a b c h k. lt-through c b a k h;
+      either = λ a b c n h. ⊎-elim inr inl (lt-either c b a n h);
+      number = λ a b h. lt-numbers b a h .1;
+    }
+
+-- i is the earliest of the best among the numbers below n that take part. A NaN never leads, and what leads is better than every earlier value but a NaN.
+pub record Leads (better : Better) (value : ℕ → Float) (among : ℕ → Bool) (start : Float) (n i : ℕ) : Type 0 where
+  pub below : i < n
+  pub takes-part : among i ≡ true
+  pub number : isNan (value i) ≡ false
+  pub ahead : better (value i) start ≡ true
+  pub best : (j : ℕ) → j < n → among j ≡ true → better (value j) (value i) ≡ false
+  pub earliest : (j : ℕ) → j < i → among j ≡ true → (better (value i) (value j) ≡ true) ⊎ (isNan (value j) ≡ true)
+
+module _ (better : Better) (ranks : Ranks better) (value : ℕ → Float) (among : ℕ → Bool) (start : Float) where
+  abbrev at : ℕ → Leading
+  at n = leader better value among start n
+
+  -- nobody who took part is better than the value that leads
+  none-better : (k : ℕ) (b : Bool) (l : Leading) → among k && better (value k) (l .value) ≡ b → ((j : ℕ) → j < k → among j ≡ true → better (value j) (l .value) ≡ false)
+      → (j : ℕ) → j < suc k → among j ≡ true → better (value j) (cond b (record { value = value k; who = some k }) l .value) ≡ false
+  none-better k true l e f j h a =
+      elim (eq-or-lt-of-le (let z : j ≤ k = omega arith in z)) [
+        | inl p ↦ subst (λ (i : ℕ). better (value i) (value k) ≡ false) (sym p) (ranks .never-itself (value k))
+        | inr s ↦
+            refuted (better (value j) (value k))
+            (λ t. clash (ranks .through (value j) (value k) (l .value) t (second-part (among k) (better (value k) (l .value)) e)) (f j s a))
+      ]
+  none-better k false l e f j h a =
+      elim (eq-or-lt-of-le (let z : j ≤ k = omega arith in z)) [
+        | inl p ↦
+            subst (λ (i : ℕ). better (value i) (l .value) ≡ false) (sym p)
+            (ap (λ (b : Bool). b && better (value k) (l .value)) (sym (subst (λ (i : ℕ). among i ≡ true) p a)) ∙ e)
+        | inr s ↦ f j s a
+      ]
+
+  leader-none-better : (n j : ℕ) → j < n → among j ≡ true → better (value j) (at n .value) ≡ false
+  unfolding leader
+  leader-none-better zero j h a = absurd (not-suc-le-zero h)
+  leader-none-better (suc k) j h a = none-better k (among k && better (value k) (at k .value)) (at k) refl (leader-none-better k) j h a
+
+  -- the value that leads is the leader's, and better than the start and than every earlier number
+  abbrev Ahead : Leading → Type 0
+  Ahead l = (i : ℕ) → l .who ≡ some i → (l .value ≡ value i) × (better (value i) start ≡ true) × ((j : ℕ) → j < i → among j ≡ true → (better (value i) (value j) ≡ true) ⊎ (isNan (value j) ≡ true))
+
+  over-start : (v : Float) (l : Leading) → Sound better value among start l → Ahead l → better v (l .value) ≡ true → better v start ≡ true
+  over-start v l (inl f) a h = let g = a (f .0) (f .1) in ranks .through v (value (f .0)) start (ap (better v) (sym (g .0)) ∙ h) (g .1)
+  over-start v l (inr s) a h = ap (better v) (sym (s .1)) ∙ h
+
+  over-earlier : (v w x : Float) (b : Bool) → isNan x ≡ b → better v w ≡ true → better x w ≡ false → (better v x ≡ true) ⊎ (isNan x ≡ true)
+  over-earlier v w x true e h f = inr e
+  over-earlier v w x false e h f = ⊎-elim inl (λ t. absurd (clash t f)) (ranks .either v x w e h)
+
+  ahead-step : (k : ℕ) (b : Bool) (l : Leading) → among k && better (value k) (l .value) ≡ b → Sound better value among start l → ((j : ℕ) → j < k → among j ≡ true → better (value j) (l .value) ≡ false) → Ahead l
+      → Ahead (cond b (record { value = value k; who = some k }) l)
+  ahead-step k true l e s f a i h =
+      let p : _≡_ {A = ℕ} k i = cc in
+      let t = second-part (among k) (better (value k) (l .value)) e in
+      subst (λ (i : ℕ). (value k ≡ value i) × (better (value i) start ≡ true) × ((j : ℕ) → j < i → among j ≡ true → (better (value i) (value j) ≡ true) ⊎ (isNan (value j) ≡ true))) p
+      (refl, over-start (value k) l s a t, λ j g c. over-earlier (value k) (l .value) (value j) (isNan (value j)) refl t (f j g c))
+  ahead-step k false l e s f a i h = a i h
+
+  ahead : (n : ℕ) → Ahead (at n)
+  unfolding leader
+  ahead zero i h = absurd (let z : _≡_ {A = ℕ} 0 1 = cc in omega arith)
+  ahead (suc k) i h = ahead-step k (among k && better (value k) (at k .value)) (at k) refl (sound better value among start k) (leader-none-better k) (ahead k) i h
+
+  pub leader-best : (n i : ℕ) → leader better value among start n .who ≡ some i → Leads better value among start n i
+  leader-best n i h =
+      let a = ahead n i h in
+      record {
+        below = leader-below better value among start n i h;
+        takes-part = leader-among better value among start n i h;
+        number = ranks .number (value i) start (a .1);
+        ahead = a .1;
+        best = λ j g c. ap (better (value j)) (sym (a .0)) ∙ leader-none-better n j g c;
+        earliest = a .2;
+      }
+
+  -- where nobody leads, nobody who takes part is better than the start
+  pub leader-none : (n : ℕ) → leader better value among start n .who ≡ none → (j : ℕ) → j < n → among j ≡ true → better (value j) start ≡ false
+  leader-none n h j g c =
+      elim (sound better value among start n) [
+        | inl f ↦ absurd (nobody (sym h ∙ f .1))
+        | inr s ↦ ap (better (value j)) (sym (s .1)) ∙ leader-none-better n j g c
+      ]
+    where
+      nobody : {i : ℕ} → none ≡ some i → ⊥
+      nobody {i} e = absurd (let z : _≡_ {A = ℕ} 0 1 = cc in omega arith)
+
+  -- there is only one such number, and it leads
+  not-before : (n i k : ℕ) → Leads better value among start n i → Leads better value among start n k → i < k → ⊥
+  not-before n i k p q l =
+      ⊎-elim
+      (λ t. clash t (p .best k (q .below) (q .takes-part)))
+      (λ t. clash t (p .number))
+      (q .earliest i l (p .takes-part))
+
+  pub leads-once : (n i k : ℕ) → Leads better value among start n i → Leads better value among start n k → i ≡ k
+  leads-once n i k p q = let a = not-before n i k p q in let b = not-before n k i q p in omega arith
+
+  pub leader-only : (n i : ℕ) → Leads better value among start n i → leader better value among start n .who ≡ some i
+  leader-only n i p = go (leader better value among start n .who) refl
+    where
+      go : (o : Option ℕ) → leader better value among start n .who ≡ o → o ≡ some i
+      go none e = absurd (clash (p .ahead) (leader-none n e i (p .below) (p .takes-part)))
+      go (some k) e = ap some (leads-once n k i (leader-best n k e) p)
+
 -- ---- values and parts that agree below n give the same leader
 pub leader-same : (better : Better) (v w : ℕ → Float) (a b : ℕ → Bool) (start : Float) (n : ℕ) → ((k : ℕ) → k < n → v k ≡ w k) → ((k : ℕ) → k < n → a k ≡ b k) → leader better v a start n ≡ leader better w b start n
 unfolding leader
@@ -137,14 +289,6 @@ leader-same better v w a b start (suc k) h g =
 -- ---- every number, and some number
 both : (a b : Bool) → a ≡ true → b ≡ true → a && b ≡ true
 both a b p q = rw (p, q)
-
-second-part : (a b : Bool) → a && b ≡ true → b ≡ true
-second-part true b e = e
-second-part false b e = absurd (subst T (sym e) tt)
-
-not-second : (a b : Bool) → b ≡ false → a && b ≡ false
-not-second true b e = e
-not-second false b e = refl
 
 module _ (test : ℕ → Bool) where
   -- a turn of a loop that has seen only numbers that pass

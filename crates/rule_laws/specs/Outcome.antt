@@ -136,7 +136,7 @@ module _ (s : Settings) (answer : Bool) (proposal : List ProposedManifold) where
       b : Side
       b = sideOf c2 (bodyOf body (c2 .body))
 
-      go : (t r : Bool) → Outcome p (cond t (overlapping s answer proposal c1 c2 a b p r (p .cache)) (record { pair = disjoint p; way = update.apart; bit = true; distance = zeroF }))
+      go : (t r : Bool) → Outcome p (cond t (overlapping s answer proposal c1 c2 a b p r (p .cache)) (record { pair = disjoint p; way = update.aabbsDisjoint; bit = true; maxContactDistance = zeroF }))
       go true r = outcome-overlapping c1 c2 a b p r (p .cache)
       go false r = parts refl refl refl refl
 

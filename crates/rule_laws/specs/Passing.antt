@@ -14,7 +14,7 @@ use Rattle.rules.specs.Update.{Updated}
 use Rattle.rules.specs.Status.{Pass, Change, start, stop, count, stopIf, countOf, visit, visitAll, bitOf, standingBits}
 use Rattle.rules.specs.Runs.{Held, holding, raisedBy, manifoldsOf, replayOne, replay}
 use Rattle.rule_laws.specs.Lookup.{Test, same, other, test, tally, ids, find, find-id, eqb-same, eqb-other}
-use Rattle.rule_laws.specs.Visit.{Verdict, vanishes, starts, stops, generates, recounts, stands, say, saying, becoming, verdict, Effect, visited}
+use Rattle.rule_laws.specs.Visit.{Verdict, vanishes, starts, stops, generates, recounts, persists, changesFor, visitChanges, becoming, verdict, Effect, visited}
 
 -- ---- replaying
 
@@ -68,23 +68,23 @@ module _ (ps : List Pair) (h : Held) (k id c d : ℕ) (n : k ≢ id) where
   start-other true = holding-other h id (some (manifoldsOf id ps)) k n
   start-other false = refl
 
--- what is said of a pair concerns its id alone
-say-other : (ps : List Pair) (h : Held) (k : ℕ) (v : Verdict) (p : Pair) → k ≢ p .names .id → replay ps (say v p) h k ≡ h k
+-- the changes that a pair's visit lists concern its id alone
+changesFor-other : (ps : List Pair) (h : Held) (k : ℕ) (v : Verdict) (p : Pair) → k ≢ p .names .id → replay ps (changesFor v p) h k ≡ h k
 unfolding replay
-say-other ps h k vanishes p n = stop-other ps h k (p .names .id) (p .names .collider1) (p .names .collider2) n (p .flags .generateConstraints) (p .names .body1) (p .names .body2)
-say-other ps h k starts p n = start-other ps h k (p .names .id) (p .names .collider1) (p .names .collider2) n (p .flags .generateConstraints)
-say-other ps h k stops p n = stop-other ps h k (p .names .id) (p .names .collider1) (p .names .collider2) n (p .flags .generateConstraints) (p .names .body1) (p .names .body2)
-say-other ps h k generates p n = start-other ps h k (p .names .id) (p .names .collider1) (p .names .collider2) n true
-say-other ps h k recounts p n = count-other ps h k (p .names .id) (p .names .collider1) (p .names .collider2) n (p .countChange) (p .names .body1) (p .names .body2)
-say-other ps h k stands p n = refl
+changesFor-other ps h k vanishes p n = stop-other ps h k (p .names .id) (p .names .collider1) (p .names .collider2) n (p .flags .generateConstraints) (p .names .body1) (p .names .body2)
+changesFor-other ps h k starts p n = start-other ps h k (p .names .id) (p .names .collider1) (p .names .collider2) n (p .flags .generateConstraints)
+changesFor-other ps h k stops p n = stop-other ps h k (p .names .id) (p .names .collider1) (p .names .collider2) n (p .flags .generateConstraints) (p .names .body1) (p .names .body2)
+changesFor-other ps h k generates p n = start-other ps h k (p .names .id) (p .names .collider1) (p .names .collider2) n true
+changesFor-other ps h k recounts p n = count-other ps h k (p .names .id) (p .names .collider1) (p .names .collider2) n (p .countChange) (p .names .body1) (p .names .body2)
+changesFor-other ps h k persists p n = refl
 
-saying-other : (ps : List Pair) (h : Held) (k j : ℕ) (qs : List Pair) → k ≢ j → replay ps (saying (find j qs)) h k ≡ h k
+visitChanges-other : (ps : List Pair) (h : Held) (k j : ℕ) (qs : List Pair) → k ≢ j → replay ps (visitChanges (find j qs)) h k ≡ h k
 unfolding replay
-saying-other ps h k j qs n = go (find j qs) (λ p e. find-id j qs p e)
+visitChanges-other ps h k j qs n = go (find j qs) (λ p e. find-id j qs p e)
   where
-    go : (o : Option Pair) → ((p : Pair) → o ≡ some p → p .names .id ≡ j) → replay ps (saying o) h k ≡ h k
+    go : (o : Option Pair) → ((p : Pair) → o ≡ some p → p .names .id ≡ j) → replay ps (visitChanges o) h k ≡ h k
     go none f = refl
-    go (some p) f = say-other ps h k (verdict p) p (λ e. n (e ∙ f p refl))
+    go (some p) f = changesFor-other ps h k (verdict p) p (λ e. n (e ∙ f p refl))
 
 -- ---- the pass
 
@@ -96,8 +96,8 @@ pub record Passed (ks : List ℕ) (s s' : Pass) : Type 0 where
   pub unseen : (k : ℕ) → tally k ks ≡ 0 → find k (s' .graph .pairs) ≡ find k (s .graph .pairs)
   pub seen : (k : ℕ) → tally k ks ≡ 1 → find k (s' .graph .pairs) ≡ becoming (find k (s .graph .pairs))
   pub silent : (ps : List Pair) (h : Held) (k : ℕ) → tally k ks ≡ 0 → replay ps (s' .changes) h k ≡ replay ps (s .changes) h k
-  pub heard : (ps : List Pair) (h : Held) (k : ℕ) → tally k ks ≡ 1 →
-      replay ps (s' .changes) h k ≡ replay ps (saying (find k (s .graph .pairs))) (replay ps (s .changes) h) k
+  pub replayed : (ps : List Pair) (h : Held) (k : ℕ) → tally k ks ≡ 1 →
+      replay ps (s' .changes) h k ≡ replay ps (visitChanges (find k (s .graph .pairs))) (replay ps (s .changes) h) k
 
 tally-unseen : (k j : ℕ) (ks : List ℕ) → tally k (j ∷ ks) ≡ 0 → (k ≢ j) × (tally k ks ≡ 0)
 unfolding tally
@@ -117,23 +117,23 @@ tally-seen k j ks z = go (eqb j k) (test j k) z
 
 -- one visit, and then the rest
 module _ (j : ℕ) (ks : List ℕ) (s t s' : Pass) (e : Effect j s t) (f : Passed ks t s') where
-  moved : (ps : List Pair) (h : Held) (k : ℕ) → replay ps (t .changes) h k ≡ replay ps (saying (find j (s .graph .pairs))) (replay ps (s .changes) h) k
-  moved ps h k = ap (λ (cs : List Change). replay ps cs h k) (e .said) ∙ ap (λ (H : Held). H k) (replay-append ps (s .changes) (saying (find j (s .graph .pairs))) h)
+  moved : (ps : List Pair) (h : Held) (k : ℕ) → replay ps (t .changes) h k ≡ replay ps (visitChanges (find j (s .graph .pairs))) (replay ps (s .changes) h) k
+  moved ps h k = ap (λ (cs : List Change). replay ps cs h k) (e .changes) ∙ ap (λ (H : Held). H k) (replay-append ps (s .changes) (visitChanges (find j (s .graph .pairs))) h)
 
   kept : (ps : List Pair) (h : Held) (k : ℕ) → k ≢ j → replay ps (t .changes) h k ≡ replay ps (s .changes) h k
-  kept ps h k n = moved ps h k ∙ saying-other ps (replay ps (s .changes) h) k j (s .graph .pairs) n
+  kept ps h k n = moved ps h k ∙ visitChanges-other ps (replay ps (s .changes) h) k j (s .graph .pairs) n
 
   onward-seen : (k : ℕ) → ((j ≡ k) × (tally k ks ≡ 0)) ⊎ ((k ≢ j) × (tally k ks ≡ 1)) → find k (s' .graph .pairs) ≡ becoming (find k (s .graph .pairs))
   onward-seen k (inl i) = f .unseen k (i .1) ∙ subst (λ (k : ℕ). find k (t .graph .pairs) ≡ becoming (find k (s .graph .pairs))) (i .0) (e .here)
   onward-seen k (inr i) = f .seen k (i .1) ∙ ap becoming (e .others k (i .0))
 
-  onward-heard : (ps : List Pair) (h : Held) (k : ℕ) → ((j ≡ k) × (tally k ks ≡ 0)) ⊎ ((k ≢ j) × (tally k ks ≡ 1)) →
-      replay ps (s' .changes) h k ≡ replay ps (saying (find k (s .graph .pairs))) (replay ps (s .changes) h) k
-  onward-heard ps h k (inl i) =
-      f .silent ps h k (i .1) ∙ moved ps h k ∙ ap (λ (j : ℕ). replay ps (saying (find j (s .graph .pairs))) (replay ps (s .changes) h) k) (i .0)
-  onward-heard ps h k (inr i) =
-      f .heard ps h k (i .1) ∙ ap (λ (o : Option Pair). replay ps (saying o) (replay ps (t .changes) h) k) (e .others k (i .0))
-      ∙ replay-local ps (saying (find k (s .graph .pairs))) (replay ps (t .changes) h) (replay ps (s .changes) h) k (kept ps h k (i .0))
+  onward-replayed : (ps : List Pair) (h : Held) (k : ℕ) → ((j ≡ k) × (tally k ks ≡ 0)) ⊎ ((k ≢ j) × (tally k ks ≡ 1)) →
+      replay ps (s' .changes) h k ≡ replay ps (visitChanges (find k (s .graph .pairs))) (replay ps (s .changes) h) k
+  onward-replayed ps h k (inl i) =
+      f .silent ps h k (i .1) ∙ moved ps h k ∙ ap (λ (j : ℕ). replay ps (visitChanges (find j (s .graph .pairs))) (replay ps (s .changes) h) k) (i .0)
+  onward-replayed ps h k (inr i) =
+      f .replayed ps h k (i .1) ∙ ap (λ (o : Option Pair). replay ps (visitChanges o) (replay ps (t .changes) h) k) (e .others k (i .0))
+      ∙ replay-local ps (visitChanges (find k (s .graph .pairs))) (replay ps (t .changes) h) (replay ps (s .changes) h) k (kept ps h k (i .0))
 
   onward : Passed (j ∷ ks) s s'
   onward = record {
@@ -144,7 +144,7 @@ module _ (j : ℕ) (ks : List ℕ) (s t s' : Pass) (e : Effect j s t) (f : Passe
     unseen = λ k z. let w = tally-unseen k j ks z in f .unseen k (w .1) ∙ e .others k (w .0);
     seen = λ k z. onward-seen k (tally-seen k j ks z);
     silent = λ ps h k z. let w = tally-unseen k j ks z in f .silent ps h k (w .1) ∙ kept ps h k (w .0);
-    heard = λ ps h k z. onward-heard ps h k (tally-seen k j ks z);
+    replayed = λ ps h k z. onward-replayed ps h k (tally-seen k j ks z);
   }
 
 pub passed : (ks : List ℕ) (s : Pass) → ((x : ℕ) → tally x (ids (s .graph .pairs)) + tally x (s .graph .free) ≤ 1) → Passed ks s (visitAll s ks)
@@ -157,7 +157,7 @@ passed [] s u = record {
   unseen = λ k z. refl;
   seen = λ k z. absurd (omega arith);
   silent = λ ps h k z. refl;
-  heard = λ ps h k z. absurd (omega arith);
+  replayed = λ ps h k z. absurd (omega arith);
 }
 passed (j ∷ ks) s u =
     let e = visited j s (λ x. omega (arith, u x)) in

@@ -17,13 +17,38 @@ use Rattle.rules.specs.Matching.{withPoints}
 use Rattle.rules.specs.Update.{Updated, updated}
 use Rattle.rules.specs.Graph.{Graph, emptyGraph, Addition, plainAdd, newId}
 use Rattle.rules.specs.Status.{Pass, Change, bitOf, standingBits, visitAll, plainStep}
-use Rattle.rules.specs.Runs.{Held, Impulses, Entry, addition, stepping, impulses, Answer, added, stepped, plainCall, plainGraph, unlessRefused, withPairs, manifoldsOf, replay, afterUpdates, replayEntry, replayRun, namesBoth, keepsGenerating, heldIn, ProvisosAt, Provisos, RoomAt, Room, ReplayHolds}
-use Rattle.rules.specs.Stripped.{strippedPoint, stripped}
+use Rattle.rules.specs.Solver.{Write, pairWritten, plainWrite, plainWrites}
+use Rattle.rules.specs.Runs.{Held, Entry, addition, stepping, impulses, Answer, added, stepped, plainCall, plainGraph, unlessRefused, manifoldsOf, replay, namesBoth, keepsGenerating, heldIn, ProvisosAt, Provisos, RoomAt, Room}
+use Rattle.rule_laws.specs.Stripped.{strippedPoint, stripped}
+use Rattle.rule_laws.specs.SolverLaws.{written-kept}
 use Rattle.rule_laws.specs.Lookup.{Test, same, other, test, tally, ids, find, first, mapped, find-id, find-mem, find-counted, mem-counted, mem-find, find-append, find-map, ids-map, tally-ids-append, eqb-other}
-use Rattle.rule_laws.specs.Visit.{saying, becoming, tally-one}
+use Rattle.rule_laws.specs.Visit.{visitChanges, becoming, tally-one}
 use Rattle.rule_laws.specs.Passing.{Passed, passed, bits-in, bits-above}
 use Rattle.rule_laws.specs.Outcome.{Brief, brief, counting, outcome, names-kept}
-use Rattle.rule_laws.specs.Settling.{Quiet, Quieted, heldB, verdictB, sayB, quieted, settled, outcomeOf, outcomeOf-brief, saying-brief}
+use Rattle.rule_laws.specs.Settling.{Quiet, Quieted, heldB, verdictB, changesForB, quieted, settled, outcomeOf, outcomeOf-brief, visitChanges-brief}
+
+-- ---- the replay along a run, from what each step began with
+
+-- the pairs as the step's updates left them, before the status pass removes any: the number that a contact 'then has'
+abbrev pub afterUpdates : Inputs → Graph → List Pair
+afterUpdates i g = map (λ (p : Pair). updated i p .pair) (g .pairs)
+
+unfoldable pub replayEntry : Entry → Graph → Held → Held
+unfolding replay plainStep
+replayEntry (addition r a) g h = h
+replayEntry (stepping r i) g h = cond (eqb (r g) 0) (replay (afterUpdates i g) (plainStep i g .changes) h) h
+replayEntry (impulses ws) g h = h
+
+unfoldable pub replayRun : List Entry → Graph → Held → Held
+unfolding replayEntry plainCall
+replayRun [] g h = h
+replayRun (e ∷ es) g h = replayRun es (plainCall e g .graph) (replayEntry e g h)
+
+-- the claim: what the replay holds is what the graph holds
+abbrev pub ReplayHolds : Type 0
+ReplayHolds =
+    (n : ℕ) (es : List Entry) → Provisos es (emptyGraph n) → Room es (emptyGraph n) →
+    (id : ℕ) → replayRun es (emptyGraph n) (λ _. none) id ≡ heldIn (plainGraph es (emptyGraph n) .pairs) id
 
 -- ---- a graph between calls
 
@@ -167,12 +192,12 @@ module _ (i : Inputs) (g : Graph) (s : Sound g) where
   end-find k p e true z = pass .seen k z ∙ ap becoming (start-find i g k ∙ ap (mapped (λ (p : Pair). updated i p .pair)) e)
   end-find k p e false z = pass .unseen k z ∙ start-find i g k ∙ ap (mapped (λ (p : Pair). updated i p .pair)) e
 
-  pub end-heard : (ps : List Pair) (h : Held) (k : ℕ) (p : Pair) → find k (g .pairs) ≡ some p → (t : Bool) → tally k (passBits i g) ≡ cond t 1 0 →
-      replay ps (passEnd i g .changes) h k ≡ cond t (replay ps (saying (some (updated i p .pair))) h k) (h k)
+  pub end-replayed : (ps : List Pair) (h : Held) (k : ℕ) (p : Pair) → find k (g .pairs) ≡ some p → (t : Bool) → tally k (passBits i g) ≡ cond t 1 0 →
+      replay ps (passEnd i g .changes) h k ≡ cond t (replay ps (visitChanges (some (updated i p .pair))) h k) (h k)
   unfolding replay
-  end-heard ps h k p e true z =
-      pass .heard ps h k z ∙ ap (λ (o : Option Pair). replay ps (saying o) h k) (start-find i g k ∙ ap (mapped (λ (p : Pair). updated i p .pair)) e)
-  end-heard ps h k p e false z = pass .silent ps h k z
+  end-replayed ps h k p e true z =
+      pass .replayed ps h k z ∙ ap (λ (o : Option Pair). replay ps (visitChanges o) h k) (start-find i g k ∙ ap (mapped (λ (p : Pair). updated i p .pair)) e)
+  end-replayed ps h k p e false z = pass .silent ps h k z
 
   pub end-none : (k : ℕ) → find k (g .pairs) ≡ none → find k (passEnd i g .graph .pairs) ≡ none
   end-none k e = pass .unseen k (bits k none e) ∙ start-find i g k ∙ ap (mapped (λ (p : Pair). updated i p .pair)) e
@@ -210,8 +235,8 @@ module _ (i : Inputs) (g : Graph) (s : Sound g) where
       let t = updated i p .bit in
       let ps = afterUpdates i g in
       let z : tally (p .names .id) (passBits i g) ≡ cond t 1 0 = bits (p .names .id) (some p) e in
-      end-heard ps h (p .names .id) p e t z
-      ∙ ap (λ (cs : List Change). cond t (replay ps cs h (p .names .id)) (h (p .names .id))) (saying-brief q ∙ ap (sayB (verdictB (brief q)) (brief q)) (names-kept i p))
+      end-replayed ps h (p .names .id) p e t z
+      ∙ ap (λ (cs : List Change). cond t (replay ps cs h (p .names .id)) (h (p .names .id))) (visitChanges-brief q ∙ ap (changesForB (verdictB (brief q)) (brief q)) (names-kept i p))
       ∙ settled ps h p (updated i p) (outcome i p) (subst (λ (o : Option Pair). Quieted (mapped brief o)) e (s .quiet (p .names .id))) b k
       (manifoldsOf-find (p .names .id) ps
       ∙ ap countAt (find-map (λ (p : Pair). updated i p .pair) (names-kept i) (p .names .id) (g .pairs) ∙ ap (mapped (λ (p : Pair). updated i p .pair)) e))
@@ -246,31 +271,41 @@ stripped-brief : (p : Pair) → brief (stripped p) ≡ brief p
 unfolding stripped
 stripped-brief p = ap (counting (brief p)) (length-map (p .manifolds) (λ (m : Manifold). withPoints m (map strippedPoint (m .points))))
 
-written-brief : (w : Impulses) (p : Pair) → brief (w .write p) ≡ brief p
-written-brief w p = sym (stripped-brief (w .write p)) ∙ ap brief (w .keeps p) ∙ stripped-brief p
+written-brief : (w : Write) (p : Pair) → brief (pairWritten w p) ≡ brief p
+written-brief w p = sym (stripped-brief (pairWritten w p)) ∙ ap brief (written-kept w p) ∙ stripped-brief p
 
-written-names : (w : Impulses) (p : Pair) → w .write p .names ≡ p .names
+written-names : (w : Write) (p : Pair) → pairWritten w p .names ≡ p .names
 unfolding stripped
-written-names w p = ap (λ (q : Pair). q .names) (w .keeps p)
+written-names w p = ap (λ (q : Pair). q .names) (written-kept w p)
 
-mapped-brief : (w : Impulses) (o : Option Pair) → mapped brief (mapped (w .write) o) ≡ mapped brief o
+mapped-brief : (w : Write) (o : Option Pair) → mapped brief (mapped (pairWritten w) o) ≡ mapped brief o
 mapped-brief w none = refl
 mapped-brief w (some p) = ap {B = Option Brief} some (written-brief w p)
 
-write-find : (w : Impulses) (ps : List Pair) (k : ℕ) → mapped brief (find k (map (w .write) ps)) ≡ mapped brief (find k ps)
-write-find w ps k = ap (mapped brief) (find-map (w .write) (written-names w) k ps) ∙ mapped-brief w (find k ps)
+write-find : (w : Write) (ps : List Pair) (k : ℕ) → mapped brief (find k (map (pairWritten w) ps)) ≡ mapped brief (find k ps)
+write-find w ps k = ap (mapped brief) (find-map (pairWritten w) (written-names w) k ps) ∙ mapped-brief w (find k ps)
 
-pub write-sound : (w : Impulses) (g : Graph) → Sound g → Sound (withPairs g (map (w .write) (g .pairs)))
+pub write-sound : (w : Write) (g : Graph) → Sound g → Sound (plainWrite w g)
 write-sound w g s = record {
-  once = λ x l. ap (λ (l : List ℕ). tally x l + tally x (g .free)) (ids-map (w .write) (written-names w) (g .pairs)) ∙ s .once x l;
-  never = λ x l. ap (λ (l : List ℕ). tally x l + tally x (g .free)) (ids-map (w .write) (written-names w) (g .pairs)) ∙ s .never x l;
-  sized = ap (λ (n : ℕ). n + length (g .free)) (length-map (g .pairs) (w .write)) ∙ s .sized;
+  once = λ x l. ap (λ (l : List ℕ). tally x l + tally x (g .free)) (ids-map (pairWritten w) (written-names w) (g .pairs)) ∙ s .once x l;
+  never = λ x l. ap (λ (l : List ℕ). tally x l + tally x (g .free)) (ids-map (pairWritten w) (written-names w) (g .pairs)) ∙ s .never x l;
+  sized = ap (λ (n : ℕ). n + length (g .free)) (length-map (g .pairs) (pairWritten w)) ∙ s .sized;
   fits = s .fits;
   quiet = λ k. subst Quieted (sym (write-find w (g .pairs) k)) (s .quiet k);
 }
 
-pub write-holds : (w : Impulses) (g : Graph) (h : Held) → Holds g h → Holds (withPairs g (map (w .write) (g .pairs))) h
+pub write-holds : (w : Write) (g : Graph) (h : Held) → Holds g h → Holds (plainWrite w g) h
 write-holds w g h e k = e k ∙ ap heldB (sym (write-find w (g .pairs) k))
+
+pub writes-sound : (ws : List Write) (g : Graph) → Sound g → Sound (plainWrites ws g)
+unfolding plainWrites
+writes-sound [] g s = s
+writes-sound (w ∷ ws) g s = writes-sound ws (plainWrite w g) (write-sound w g s)
+
+pub writes-hold : (ws : List Write) (g : Graph) (h : Held) → Holds g h → Holds (plainWrites ws g) h
+unfolding plainWrites
+writes-hold [] g h e = e
+writes-hold (w ∷ ws) g h e = writes-hold ws (plainWrite w g) h (write-holds w g h e)
 
 -- ---- additions
 
@@ -401,13 +436,13 @@ pub call-sound : (e : Entry) (g : Graph) → Sound g → RoomAt e g → Sound (p
 unfolding plainCall RoomAt
 call-sound (addition r a) g s q = sound-added a g (added (newId g)) s (r g) q
 call-sound (stepping r i) g s q = sound-stepped i g (stepped (plainStep i g)) s (r g)
-call-sound (impulses w) g s q = write-sound w g s
+call-sound (impulses ws) g s q = writes-sound ws g s
 
 pub call-holds : (e : Entry) (g : Graph) (h : Held) → Sound g → Holds g h → ProvisosAt e g → Holds (plainCall e g .graph) (replayEntry e g h)
 unfolding plainCall replayEntry ProvisosAt
 call-holds (addition r a) g h s w p = holds-added a g h (added (newId g)) w (r g)
 call-holds (stepping r i) g h s w p = holds-stepped i g h (stepped (plainStep i g)) s w (r g) p
-call-holds (impulses v) g h s w p = write-holds v g h w
+call-holds (impulses ws) g h s w p = writes-hold ws g h w
 
 -- every graph of a run is sound, whatever the provisos
 pub run-sound : (es : List Entry) (g : Graph) → Sound g → Room es g → Sound (plainGraph es g)

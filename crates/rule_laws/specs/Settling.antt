@@ -13,7 +13,7 @@ use Rattle.rules.specs.Update.{Updated, nonZero}
 use Rattle.rules.specs.Status.{Change, start, count, stopIf, countOf}
 use Rattle.rules.specs.Runs.{Held, raisedBy, manifoldsOf, replayOne, replay, named}
 use Rattle.rule_laws.specs.Lookup.{mapped}
-use Rattle.rule_laws.specs.Visit.{Verdict, vanishes, starts, stops, generates, recounts, stands, pick, verdict, next, say, becoming, saying}
+use Rattle.rule_laws.specs.Visit.{Verdict, vanishes, starts, stops, generates, recounts, persists, pick, verdict, next, changesFor, becoming, visitChanges}
 use Rattle.rule_laws.specs.Passing.{naming, holding-same}
 use Rattle.rule_laws.specs.Outcome.{Brief, brief, parted, anew, anewBit, Outcome, skipped, parts, recycled, renews}
 
@@ -41,15 +41,15 @@ nextB starts b = some (marked b true false (b .stopped) false (b .change))
 nextB stops b = some (marked b false (b .started) false (b .begun) (b .change))
 nextB generates b = some (marked b (b .edge) (b .started) (b .stopped) false (b .change))
 nextB recounts b = some (marked b (b .edge) (b .started) (b .stopped) (b .begun) (pos 0))
-nextB stands b = some b
+nextB persists b = some b
 
-abbrev pub sayB : Verdict → Brief → Names → List Change
-sayB vanishes b n = stopIf (b .generating) n
-sayB starts b n = cond (b .generating) (start (n .id) ∷ []) []
-sayB stops b n = stopIf (b .generating) n
-sayB generates b n = start (n .id) ∷ []
-sayB recounts b n = countOf n (b .change)
-sayB stands b n = []
+abbrev pub changesForB : Verdict → Brief → Names → List Change
+changesForB vanishes b n = stopIf (b .generating) n
+changesForB starts b n = cond (b .generating) (start (n .id) ∷ []) []
+changesForB stops b n = stopIf (b .generating) n
+changesForB generates b n = start (n .id) ∷ []
+changesForB recounts b n = countOf n (b .change)
+changesForB persists b n = []
 
 next-brief : (v : Verdict) (p : Pair) → mapped brief (next v p) ≡ nextB v (brief p)
 next-brief vanishes p = refl
@@ -57,15 +57,15 @@ next-brief starts p = refl
 next-brief stops p = refl
 next-brief generates p = refl
 next-brief recounts p = refl
-next-brief stands p = refl
+next-brief persists p = refl
 
-say-brief : (v : Verdict) (p : Pair) → say v p ≡ sayB v (brief p) (p .names)
-say-brief vanishes p = refl
-say-brief starts p = refl
-say-brief stops p = refl
-say-brief generates p = refl
-say-brief recounts p = refl
-say-brief stands p = refl
+changesFor-brief : (v : Verdict) (p : Pair) → changesFor v p ≡ changesForB v (brief p) (p .names)
+changesFor-brief vanishes p = refl
+changesFor-brief starts p = refl
+changesFor-brief stops p = refl
+changesFor-brief generates p = refl
+changesFor-brief recounts p = refl
+changesFor-brief persists p = refl
 
 -- what is to be held of a pair
 abbrev pub heldB : Option Brief → Option ℤ
@@ -99,27 +99,27 @@ unchanged old new e =
 raised : (old new : ℕ) → pos old +ℤ (pos new -ℤ pos old) ≡ pos new
 raised old new = +ℤ-comm (pos old) (pos new -ℤ pos old) ∙ -ℤ-+ℤ-cancel (pos new) (pos old)
 
--- ---- what a saying does to what is held
+-- ---- what the changes of a visit do to what is held
 
 abbrev Both : Names → Type 0
 Both n = T (named (n .body1)) × T (named (n .body2))
 
-stop-heard : (ps : List Pair) (h : Held) (id c d : ℕ) (a b : Option ℕ) → Both (naming id c d a b) → replay ps (stopIf true (naming id c d a b)) h id ≡ none
+stop-replayed : (ps : List Pair) (h : Held) (id c d : ℕ) (a b : Option ℕ) → Both (naming id c d a b) → replay ps (stopIf true (naming id c d a b)) h id ≡ none
 unfolding replay replayOne
-stop-heard ps h id c d none b t = absurd (t .0)
-stop-heard ps h id c d (some x) none t = absurd (t .1)
-stop-heard ps h id c d (some x) (some y) t = holding-same h id none
+stop-replayed ps h id c d none b t = absurd (t .0)
+stop-replayed ps h id c d (some x) none t = absurd (t .1)
+stop-replayed ps h id c d (some x) (some y) t = holding-same h id none
 
-count-heard : (ps : List Pair) (h : Held) (id c d : ℕ) (e : ℤ) (a b : Option ℕ) → Both (naming id c d a b) →
+count-replayed : (ps : List Pair) (h : Held) (id c d : ℕ) (e : ℤ) (a b : Option ℕ) → Both (naming id c d a b) →
     replay ps (countOf (naming id c d a b) e) h id ≡ raisedBy (h id) e
 unfolding replay replayOne
-count-heard ps h id c d e none b t = absurd (t .0)
-count-heard ps h id c d e (some x) none t = absurd (t .1)
-count-heard ps h id c d e (some x) (some y) t = holding-same h id (raisedBy (h id) e)
+count-replayed ps h id c d e none b t = absurd (t .0)
+count-replayed ps h id c d e (some x) none t = absurd (t .1)
+count-replayed ps h id c d e (some x) (some y) t = holding-same h id (raisedBy (h id) e)
 
-start-heard : (ps : List Pair) (h : Held) (id : ℕ) → replay ps (start id ∷ []) h id ≡ some (manifoldsOf id ps)
+start-replayed : (ps : List Pair) (h : Held) (id : ℕ) → replay ps (start id ∷ []) h id ≡ some (manifoldsOf id ps)
 unfolding replay replayOne
-start-heard ps h id = holding-same h id (some (manifoldsOf id ps))
+start-replayed ps h id = holding-same h id (some (manifoldsOf id ps))
 
 -- ---- settling
 
@@ -128,8 +128,8 @@ abbrev pub leftBy : Verdict → Brief → Bool → Option Brief
 leftBy v b bit = cond bit (nextB v b) (some b)
 
 -- what the replay has of the pair's id, once the pass is over
-abbrev pub heardBy : List Pair → Held → Names → Verdict → Brief → Bool → Option ℤ
-heardBy ps h n v b bit = cond bit (replay ps (sayB v b n) h (n .id)) (h (n .id))
+abbrev pub heldAfter : List Pair → Held → Names → Verdict → Brief → Bool → Option ℤ
+heldAfter ps h n v b bit = cond bit (replay ps (changesForB v b n) h (n .id)) (h (n .id))
 
 -- a quiet pair, by its five values
 abbrev before : Bool → Bool → Bool → ℕ → ℤ → Brief
@@ -165,7 +165,7 @@ module _ (old new : ℕ) (c : ℤ) where
       let b = anew (before was gen begun old c) en now new in
       Quieted (leftBy (verdictB b) b (anewBit (before was gen begun old c) en now new))
 
-  calm-apart : (gen begun en bit : Bool) → false ≡ not (eqb new 0) → Quieted (leftBy stands (anew (before false gen begun old c) en false new) bit)
+  calm-apart : (gen begun en bit : Bool) → false ≡ not (eqb new 0) → Quieted (leftBy persists (anew (before false gen begun old c) en false new) bit)
   calm-apart gen begun en true t = record { apart = refl; started = refl; stopped = refl; begun = refl; edge = refl; filled = t }
   calm-apart gen begun en false t = record { apart = refl; started = refl; stopped = refl; begun = refl; edge = refl; filled = t }
 
@@ -182,7 +182,7 @@ module _ (old new : ℕ) (c : ℤ) where
   calm-stays : (gen en : Bool) → true ≡ not (eqb new 0) → Calm true true gen false en
   calm-stays gen false t = go (nonZero (pos new -ℤ pos old))
     where
-      go : (z : Bool) → Quieted (leftBy stands (anew (before true gen false old c) false true new) z)
+      go : (z : Bool) → Quieted (leftBy persists (anew (before true gen false old c) false true new) z)
       go true = record { apart = refl; started = refl; stopped = refl; begun = refl; edge = refl; filled = t }
       go false = record { apart = refl; started = refl; stopped = refl; begun = refl; edge = refl; filled = t }
   calm-stays true true t = go (nonZero (pos new -ℤ pos old))
@@ -205,13 +205,13 @@ module _ (ps : List Pair) (h : Held) (n : Names) (old new : ℕ) (c : ℤ) (m : 
   Settles was now gen begun en =
       let b = anew (before was gen begun old c) en now new in
       let bit = anewBit (before was gen begun old c) en now new in
-      heardBy ps h n (verdictB b) b bit ≡ heldB (leftBy (verdictB b) b bit)
+      heldAfter ps h n (verdictB b) b bit ≡ heldB (leftBy (verdictB b) b bit)
 
   enters : replay ps (start (n .id) ∷ []) h (n .id) ≡ some (pos new)
-  enters = start-heard ps h (n .id) ∙ ap {B = Option ℤ} some m
+  enters = start-replayed ps h (n .id) ∙ ap {B = Option ℤ} some m
 
   settle-apart : (gen begun en bit : Bool) → h (n .id) ≡ none →
-      heardBy ps h n stands (anew (before false gen begun old c) en false new) bit ≡ heldB (leftBy stands (anew (before false gen begun old c) en false new) bit)
+      heldAfter ps h n persists (anew (before false gen begun old c) en false new) bit ≡ heldB (leftBy persists (anew (before false gen begun old c) en false new) bit)
   unfolding replay
   settle-apart gen begun en true e = e
   settle-apart gen begun en false e = e
@@ -226,8 +226,8 @@ module _ (ps : List Pair) (h : Held) (n : Names) (old new : ℕ) (c : ℤ) (m : 
   unfolding replay
   settle-stops begun true false k b e = absurd (k tt)
   settle-stops begun false false k b e = e
-  settle-stops begun true true k b e = stop-heard ps h (n .id) (n .collider1) (n .collider2) (n .body1) (n .body2) (b tt)
-  settle-stops begun false true k b e = stop-heard ps h (n .id) (n .collider1) (n .collider2) (n .body1) (n .body2) (b tt)
+  settle-stops begun true true k b e = stop-replayed ps h (n .id) (n .collider1) (n .collider2) (n .body1) (n .body2) (b tt)
+  settle-stops begun false true k b e = stop-replayed ps h (n .id) (n .collider1) (n .collider2) (n .body1) (n .body2) (b tt)
 
   settle-stays : (gen en : Bool) → (T gen → T en) → (T en → Both n) → h (n .id) ≡ heldB (some (before true gen false old c)) → Settles true true gen false en
   unfolding replay
@@ -235,16 +235,16 @@ module _ (ps : List Pair) (h : Held) (n : Names) (old new : ℕ) (c : ℤ) (m : 
   settle-stays false false k b e = go (nonZero (pos new -ℤ pos old))
     where
       go : (z : Bool) →
-          heardBy ps h n stands (anew (before true false false old c) false true new) z ≡ heldB (leftBy stands (anew (before true false false old c) false true new) z)
+          heldAfter ps h n persists (anew (before true false false old c) false true new) z ≡ heldB (leftBy persists (anew (before true false false old c) false true new) z)
       go true = e
       go false = e
   settle-stays true true k b e = go (nonZero (pos new -ℤ pos old)) refl
     where
       go : (z : Bool) → nonZero (pos new -ℤ pos old) ≡ z →
-          heardBy ps h n (pick false false false false z) (anew (before true true false old c) true true new) z
+          heldAfter ps h n (pick false false false false z) (anew (before true true false old c) true true new) z
           ≡ heldB (leftBy (pick false false false false z) (anew (before true true false old c) true true new) z)
       go true d =
-          count-heard ps h (n .id) (n .collider1) (n .collider2) (pos new -ℤ pos old) (n .body1) (n .body2) (b tt)
+          count-replayed ps h (n .id) (n .collider1) (n .collider2) (pos new -ℤ pos old) (n .body1) (n .body2) (b tt)
           ∙ ap (λ (o : Option ℤ). raisedBy o (pos new -ℤ pos old)) e ∙ ap {B = Option ℤ} some (raised old new)
       go false d = e ∙ ap {B = Option ℤ} some (sym (unchanged old new d))
   settle-stays false true k b e = enters
@@ -258,12 +258,12 @@ module _ (ps : List Pair) (h : Held) (n : Names) (old new : ℕ) (c : ℤ) (m : 
   settle true true gen false en q k b e = settle-stays gen en (k tt) b e
 
 -- a pair found disjoint
-settle-parted : (ps : List Pair) (h : Held) (n : Names) (b : Brief) → (T (b .generating) → Both n) → h (n .id) ≡ heldB (some b) → heardBy ps h n vanishes (parted b) true ≡ none
+settle-parted : (ps : List Pair) (h : Held) (n : Names) (b : Brief) → (T (b .generating) → Both n) → h (n .id) ≡ heldB (some b) → heldAfter ps h n vanishes (parted b) true ≡ none
 unfolding replay
 settle-parted ps h n b w e = go (b .touching) (b .generating) w e
   where
     go : (was gen : Bool) → (T gen → Both n) → h (n .id) ≡ cond (was && gen) (some (pos (b .count))) none → replay ps (stopIf gen n) h (n .id) ≡ none
-    go was true w e = stop-heard ps h (n .id) (n .collider1) (n .collider2) (n .body1) (n .body2) (w tt)
+    go was true w e = stop-replayed ps h (n .id) (n .collider1) (n .collider2) (n .body1) (n .body2) (w tt)
     go true false w e = e
     go false false w e = e
 
@@ -284,11 +284,11 @@ pub settled : (ps : List Pair) (h : Held) (p : Pair) (u : Updated) → Outcome p
     (T (u .pair .flags .generateConstraints) → T (named (u .pair .names .body1)) × T (named (u .pair .names .body2))) →
     (T (p .flags .touching) → T (p .flags .generateConstraints) → T (u .pair .flags .generateConstraints)) →
     manifoldsOf (p .names .id) ps ≡ pos (length (u .pair .manifolds)) → h (p .names .id) ≡ heldB (some (brief p)) →
-    heardBy ps h (p .names) (verdictB (brief (u .pair))) (brief (u .pair)) (u .bit) ≡ heldB (leftBy (verdictB (brief (u .pair))) (brief (u .pair)) (u .bit))
+    heldAfter ps h (p .names) (verdictB (brief (u .pair))) (brief (u .pair)) (u .bit) ≡ heldB (leftBy (verdictB (brief (u .pair))) (brief (u .pair)) (u .bit))
 settled ps h p u o q w k m e = go o
   where
     Goal : Brief → Bool → Type 0
-    Goal c t = heardBy ps h (p .names) (verdictB c) c t ≡ heldB (leftBy (verdictB c) c t)
+    Goal c t = heldAfter ps h (p .names) (verdictB c) c t ≡ heldB (leftBy (verdictB c) c t)
 
     both : {c : Brief} → brief (u .pair) ≡ c → u .pair .names ≡ p .names → T (c .generating) → Both (p .names)
     both f n g = subst Both n (w (subst T (sym (ap (λ (c : Brief). c .generating) f)) g))
@@ -299,7 +299,7 @@ settled ps h p u o q w k m e = go o
     go (parts n d f b) = subst₂ Goal (sym f) (sym b) (settle-parted ps h (p .names) (brief p) (both f n) e)
     go (renews en now new t n d f b) =
         subst₂ Goal (sym f) (sym b)
-        (subst (λ (c : Brief). heardBy ps h (p .names) (verdictB (anew c en now new)) (anew c en now new) (anewBit c en now new)
+        (subst (λ (c : Brief). heldAfter ps h (p .names) (verdictB (anew c en now new)) (anew c en now new) (anewBit c en now new)
         ≡ heldB (leftBy (verdictB (anew c en now new)) (anew c en now new) (anewBit c en now new)))
         (before-eq (brief p) q)
         (settle ps h (p .names) (length (p .manifolds)) new (p .countChange) (m ∙ ap (λ (c : Brief). pos (c .count)) f) (p .flags .touching) now
@@ -313,5 +313,5 @@ pub outcomeOf-brief : (q : Pair) (bit : Bool) → mapped brief (outcomeOf q bit)
 outcomeOf-brief q true = next-brief (verdict q) q
 outcomeOf-brief q false = refl
 
-pub saying-brief : (q : Pair) → saying (some q) ≡ sayB (verdictB (brief q)) (brief q) (q .names)
-saying-brief q = say-brief (verdict q) q
+pub visitChanges-brief : (q : Pair) → visitChanges (some q) ≡ changesForB (verdictB (brief q)) (brief q) (q .names)
+visitChanges-brief q = changesFor-brief (verdict q) q

@@ -1,4 +1,4 @@
--- One visit of the status pass: it changes the pair with that id, and no other, and says what `saying` says. Assumes nothing.
+-- One visit of the status pass: it changes the pair with that id, and no other, and lists the changes of `visitChanges`. Assumes nothing.
 use Prim.Native.Nat.{ℕ, suc, _+_, _≤_}
 use mathlib.Core.Path.{_≡_, refl, sym, ap, subst, _∙_}
 use mathlib.Core.Logic.{_≢_}
@@ -12,13 +12,13 @@ use lib.Seq.{set-append-seam, getD-append-seam}
 use lib.IntN.{pos}
 use Rattle.rules.specs.Records.{Pair}
 use Rattle.rules.specs.Update.{nonZero}
-use Rattle.rules.specs.Graph.{swapRemove, position}
-use Rattle.rules.specs.Status.{Pass, Event, Change, start, started, ended, eventIf, stopIf, countOf, withMarks, marks, written, removed, visitAt, visitFound, visit}
+use Rattle.rules.specs.Graph.{swapRemove, pairIndex}
+use Rattle.rules.specs.Status.{Pass, Event, Change, start, started, ended, eventIf, stopIf, countOf, withStatus, withStatusMarks, written, removed, visitAt, visitFound, visit}
 use Rattle.rule_laws.specs.Lookup.{tally, ids, find, first, rotated, tally-append, tally-ids-append, tally-rotated, find-append, find-none, find-rotated, length-rotated, swapRemove-at, eqb-same, eqb-other, Place, missing, found, place}
 
 -- which case of the pass is taken
 pub data Verdict : Type 0 where
-  vanishes starts stops generates recounts stands : Verdict
+  vanishes starts stops generates recounts persists : Verdict
 
 abbrev pub pick : Bool → Bool → Bool → Bool → Bool → Verdict
 pick true b c d e = vanishes
@@ -26,45 +26,45 @@ pick false true c d e = starts
 pick false false true d e = stops
 pick false false false true e = generates
 pick false false false false true = recounts
-pick false false false false false = stands
+pick false false false false false = persists
 
 abbrev pub verdict : Pair → Verdict
 verdict p =
     pick (p .flags .disjointAabb) (p .flags .startedTouching) (p .flags .stoppedTouching) (p .flags .touching && p .flags .startedGenerating)
     (p .flags .touching && (p .flags .generateConstraints && nonZero (p .countChange)))
 
--- what becomes of the pair, which changes are said, and which events
+-- what becomes of the pair, which changes are listed, and which events
 abbrev pub next : Verdict → Pair → Option Pair
 next vanishes p = none
-next starts p = some (withMarks p true (marks (p .flags) false (p .flags .stoppedTouching) false) (p .countChange))
-next stops p = some (withMarks p false (marks (p .flags) (p .flags .startedTouching) false (p .flags .startedGenerating)) (p .countChange))
-next generates p = some (withMarks p (p .edge .touching) (marks (p .flags) (p .flags .startedTouching) (p .flags .stoppedTouching) false) (p .countChange))
-next recounts p = some (withMarks p (p .edge .touching) (p .flags) (pos 0))
-next stands p = some p
+next starts p = some (withStatus p true (withStatusMarks (p .flags) false (p .flags .stoppedTouching) false) (p .countChange))
+next stops p = some (withStatus p false (withStatusMarks (p .flags) (p .flags .startedTouching) false (p .flags .startedGenerating)) (p .countChange))
+next generates p = some (withStatus p (p .edge .touching) (withStatusMarks (p .flags) (p .flags .startedTouching) (p .flags .stoppedTouching) false) (p .countChange))
+next recounts p = some (withStatus p (p .edge .touching) (p .flags) (pos 0))
+next persists p = some p
 
-abbrev pub say : Verdict → Pair → List Change
-say vanishes p = stopIf (p .flags .generateConstraints) (p .names)
-say starts p = cond (p .flags .generateConstraints) (start (p .names .id) ∷ []) []
-say stops p = stopIf (p .flags .generateConstraints) (p .names)
-say generates p = start (p .names .id) ∷ []
-say recounts p = countOf (p .names) (p .countChange)
-say stands p = []
+abbrev pub changesFor : Verdict → Pair → List Change
+changesFor vanishes p = stopIf (p .flags .generateConstraints) (p .names)
+changesFor starts p = cond (p .flags .generateConstraints) (start (p .names .id) ∷ []) []
+changesFor stops p = stopIf (p .flags .generateConstraints) (p .names)
+changesFor generates p = start (p .names .id) ∷ []
+changesFor recounts p = countOf (p .names) (p .countChange)
+changesFor persists p = []
 
-abbrev pub hear : Verdict → Pair → List Event
-hear vanishes p = eventIf (p .edge .touching && p .edge .contactEvents) (ended (p .names))
-hear starts p = eventIf (p .edge .contactEvents) (started (p .names))
-hear stops p = eventIf (p .edge .contactEvents) (ended (p .names))
-hear generates p = []
-hear recounts p = []
-hear stands p = []
+abbrev pub eventsFor : Verdict → Pair → List Event
+eventsFor vanishes p = eventIf (p .edge .touching && p .edge .contactEvents) (ended (p .names))
+eventsFor starts p = eventIf (p .edge .contactEvents) (started (p .names))
+eventsFor stops p = eventIf (p .edge .contactEvents) (ended (p .names))
+eventsFor generates p = []
+eventsFor recounts p = []
+eventsFor persists p = []
 
 abbrev pub becoming : Option Pair → Option Pair
 becoming none = none
 becoming (some p) = next (verdict p) p
 
-abbrev pub saying : Option Pair → List Change
-saying none = []
-saying (some p) = say (verdict p) p
+abbrev pub visitChanges : Option Pair → List Change
+visitChanges none = []
+visitChanges (some p) = changesFor (verdict p) p
 
 -- what a visit of the id k does
 pub record Effect (k : ℕ) (s s' : Pass) : Type 0 where
@@ -72,7 +72,7 @@ pub record Effect (k : ℕ) (s s' : Pass) : Type 0 where
   pub given : s' .graph .given ≡ s .graph .given
   pub tallied : (x : ℕ) → tally x (ids (s' .graph .pairs)) + tally x (s' .graph .free) ≡ tally x (ids (s .graph .pairs)) + tally x (s .graph .free)
   pub sized : length (s' .graph .pairs) + length (s' .graph .free) ≡ length (s .graph .pairs) + length (s .graph .free)
-  pub said : s' .changes ≡ s .changes ++ saying (find k (s .graph .pairs))
+  pub changes : s' .changes ≡ s .changes ++ visitChanges (find k (s .graph .pairs))
   pub here : find k (s' .graph .pairs) ≡ becoming (find k (s .graph .pairs))
   pub others : (j : ℕ) → j ≢ k → find j (s' .graph .pairs) ≡ find j (s .graph .pairs)
 
@@ -129,17 +129,17 @@ module _ (k : ℕ) (xs : List Pair) (p : Pair) (ys : List Pair) (i : p .names .i
 -- ---- the visit, by its verdict
 
 abbrev pub visitAs : Pass → ℕ → Pair → Verdict → Pass
-visitAs s i p vanishes = removed s i p (hear vanishes p) (say vanishes p)
-visitAs s i p starts = written s i (withMarks p true (marks (p .flags) false (p .flags .stoppedTouching) false) (p .countChange)) (hear starts p) (say starts p)
+visitAs s i p vanishes = removed s i p (eventsFor vanishes p) (changesFor vanishes p)
+visitAs s i p starts = written s i (withStatus p true (withStatusMarks (p .flags) false (p .flags .stoppedTouching) false) (p .countChange)) (eventsFor starts p) (changesFor starts p)
 visitAs s i p stops =
-    written s i (withMarks p false (marks (p .flags) (p .flags .startedTouching) false (p .flags .startedGenerating)) (p .countChange)) (hear stops p) (say stops p)
+    written s i (withStatus p false (withStatusMarks (p .flags) (p .flags .startedTouching) false (p .flags .startedGenerating)) (p .countChange)) (eventsFor stops p) (changesFor stops p)
 visitAs s i p generates =
-    written s i (withMarks p (p .edge .touching) (marks (p .flags) (p .flags .startedTouching) (p .flags .stoppedTouching) false) (p .countChange)) (hear generates p) (say generates p)
-visitAs s i p recounts = written s i (withMarks p (p .edge .touching) (p .flags) (pos 0)) (hear recounts p) (say recounts p)
-visitAs s i p stands = s
+    written s i (withStatus p (p .edge .touching) (withStatusMarks (p .flags) (p .flags .startedTouching) (p .flags .stoppedTouching) false) (p .countChange)) (eventsFor generates p) (changesFor generates p)
+visitAs s i p recounts = written s i (withStatus p (p .edge .touching) (p .flags) (pos 0)) (eventsFor recounts p) (changesFor recounts p)
+visitAs s i p persists = s
 
 choosing : {X : Type 0} (f : Verdict → X) (t u v w x : Bool) →
-    cond t (f vanishes) (cond u (f starts) (cond v (f stops) (cond w (f generates) (cond x (f recounts) (f stands))))) ≡ f (pick t u v w x)
+    cond t (f vanishes) (cond u (f starts) (cond v (f stops) (cond w (f generates) (cond x (f recounts) (f persists))))) ≡ f (pick t u v w x)
 choosing f true u v w x = refl
 choosing f false true v w x = refl
 choosing f false false true w x = refl
@@ -167,7 +167,7 @@ module _ (k : ℕ) (s : Pass) (xs : List Pair) (p : Pair) (ys : List Pair) (e : 
   standing : find k (s .graph .pairs) ≡ some p
   standing = ap (find k) e ∙ anew-here k xs p ys i bounded p refl
 
-  effect-written : (q : Pair) (es : List Event) (cs : List Change) → q .names .id ≡ p .names .id → becoming (some p) ≡ some q → saying (some p) ≡ cs →
+  effect-written : (q : Pair) (es : List Event) (cs : List Change) → q .names .id ≡ p .names .id → becoming (some p) ≡ some q → visitChanges (some p) ≡ cs →
       Effect k s (written s (length xs) q es cs)
   effect-written q es cs n b c =
       let w : set (s .graph .pairs) (length xs) q ≡ xs ++ q ∷ ys = ap (λ (l : List Pair). set l (length xs) q) e ∙ set-append-seam xs p ys q in
@@ -177,12 +177,12 @@ module _ (k : ℕ) (s : Pass) (xs : List Pair) (p : Pair) (ys : List Pair) (e : 
         tallied = λ x. ap (λ (l : List Pair). tally x (ids l) + tally x (s .graph .free)) w
             ∙ ap (λ (m : ℕ). m + tally x (s .graph .free)) (anew-tally k xs p ys i bounded q n x ∙ ap (λ (l : List Pair). tally x (ids l)) (sym e));
         sized = ap (λ (m : ℕ). m + length (s .graph .free)) (length-set (s .graph .pairs) (length xs) q);
-        said = ap (λ (l : List Change). s .changes ++ l) (sym c ∙ ap saying (sym standing));
+        changes = ap (λ (l : List Change). s .changes ++ l) (sym c ∙ ap visitChanges (sym standing));
         here = ap (find k) w ∙ anew-here k xs p ys i bounded q n ∙ sym b ∙ ap becoming (sym standing);
         others = λ j d. ap (find j) w ∙ anew-others k xs p ys i bounded q n j d ∙ ap (find j) (sym e);
       }
 
-  effect-removed : (es : List Event) (cs : List Change) → becoming (some p) ≡ none → saying (some p) ≡ cs → Effect k s (removed s (length xs) p es cs)
+  effect-removed : (es : List Event) (cs : List Change) → becoming (some p) ≡ none → visitChanges (some p) ≡ cs → Effect k s (removed s (length xs) p es cs)
   effect-removed es cs b c =
       let w : swapRemove (s .graph .pairs) (length xs) p ≡ xs ++ rotated ys = ap (λ (l : List Pair). swapRemove l (length xs) p) e ∙ swapRemove-at xs p p ys in
       record {
@@ -205,32 +205,32 @@ module _ (k : ℕ) (s : Pass) (xs : List Pair) (p : Pair) (ys : List Pair) (e : 
           ap (λ (l : List Pair). length l) e,
           length-append xs (p ∷ ys),
         );
-        said = ap (λ (l : List Change). s .changes ++ l) (sym c ∙ ap saying (sym standing));
+        changes = ap (λ (l : List Change). s .changes ++ l) (sym c ∙ ap visitChanges (sym standing));
         here = ap (find k) w ∙ gone-here k xs p ys i bounded ∙ sym b ∙ ap becoming (sym standing);
         others = λ j d. ap (find j) w ∙ gone-others k xs p ys i bounded j d ∙ ap (find j) (sym e);
       }
 
-  effect-none : becoming (some p) ≡ some p → saying (some p) ≡ [] → Effect k s s
+  effect-none : becoming (some p) ≡ some p → visitChanges (some p) ≡ [] → Effect k s s
   effect-none b c = record {
     capacity = refl;
     given = refl;
     tallied = λ x. refl;
     sized = refl;
-    said = sym (append-nil (s .changes)) ∙ ap (λ (l : List Change). s .changes ++ l) (sym c ∙ ap saying (sym standing));
+    changes = sym (append-nil (s .changes)) ∙ ap (λ (l : List Change). s .changes ++ l) (sym c ∙ ap visitChanges (sym standing));
     here = standing ∙ sym b ∙ ap becoming (sym standing);
     others = λ j d. refl;
   }
 
   effect-as : (v : Verdict) → verdict p ≡ v → Effect k s (visitAs s (length xs) p v)
-  effect-as v n = go v (ap (λ (u : Verdict). next u p) n) (ap (λ (u : Verdict). say u p) n)
+  effect-as v n = go v (ap (λ (u : Verdict). next u p) n) (ap (λ (u : Verdict). changesFor u p) n)
     where
-      go : (v : Verdict) → becoming (some p) ≡ next v p → saying (some p) ≡ say v p → Effect k s (visitAs s (length xs) p v)
+      go : (v : Verdict) → becoming (some p) ≡ next v p → visitChanges (some p) ≡ changesFor v p → Effect k s (visitAs s (length xs) p v)
       go vanishes b c = effect-removed _ _ b c
       go starts b c = effect-written _ _ _ refl b c
       go stops b c = effect-written _ _ _ refl b c
       go generates b c = effect-written _ _ _ refl b c
       go recounts b c = effect-written _ _ _ refl b c
-      go stands b c = effect-none b c
+      go persists b c = effect-none b c
 
 effect-missing : (k : ℕ) (s : Pass) → find k (s .graph .pairs) ≡ none → Effect k s s
 effect-missing k s b = record {
@@ -238,7 +238,7 @@ effect-missing k s b = record {
   given = refl;
   tallied = λ x. refl;
   sized = refl;
-  said = sym (append-nil (s .changes)) ∙ ap (λ (o : Option Pair). s .changes ++ saying o) (sym b);
+  changes = sym (append-nil (s .changes)) ∙ ap (λ (o : Option Pair). s .changes ++ visitChanges o) (sym b);
   here = b ∙ ap becoming (sym b);
   others = λ j d. refl;
 }
@@ -248,7 +248,7 @@ pub visited : (k : ℕ) (s : Pass) → ((x : ℕ) → tally x (ids (s .graph .pa
 unfolding visit visitFound
 visited k s h = go (place k (s .graph .pairs))
   where
-    go : Place k (s .graph .pairs) → Effect k s (visitFound s (position k (s .graph .pairs)) (s .graph .pairs))
+    go : Place k (s .graph .pairs) → Effect k s (visitFound s (pairIndex k (s .graph .pairs)) (s .graph .pairs))
     go (missing a b) = subst (λ (o : Option ℕ). Effect k s (visitFound s o (s .graph .pairs))) (sym a) (effect-missing k s b)
     go (found xs p ys e i a b) =
         subst (Effect k s)

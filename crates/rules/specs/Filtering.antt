@@ -80,7 +80,7 @@ pruned normal ps =
 unfoldable pub filtered : Float → Side → Side → Surface → ProposedManifold → Manifold
 filtered stepTime a b f m =
     record {
-      points = pruned (m .normal) (staying stepTime (f .distance) (map (movedPoint a b (f .margins) (m .normal)) (m .points)));
+      points = pruned (m .normal) (staying stepTime (f .effectiveSpeculative) (map (movedPoint a b (f .margins) (m .normal)) (m .points)));
       normal = m .normal;
       friction = f .friction;
       restitution = f .restitution;
@@ -92,6 +92,6 @@ isEmpty [] = true
 isEmpty (a ∷ rest) = false
 
 -- empty ones go
-unfoldable pub nonEmpty : List Manifold → List Manifold
-nonEmpty [] = []
-nonEmpty (m ∷ ms) = cond (isEmpty (m .points)) (nonEmpty ms) (m ∷ nonEmpty ms)
+unfoldable pub withoutEmpty : List Manifold → List Manifold
+withoutEmpty [] = []
+withoutEmpty (m ∷ ms) = cond (isEmpty (m .points)) (withoutEmpty ms) (m ∷ withoutEmpty ms)

@@ -77,9 +77,9 @@ later none = none
 later (some i) = some (suc i)
 
 -- the place of a contact in the list
-unfoldable pub position : ℕ → List Pair → Option ℕ
-position id [] = none
-position id (p ∷ ps) = cond (eqb (p .names .id) id) (some 0) (later (position id ps))
+unfoldable pub pairIndex : ℕ → List Pair → Option ℕ
+pairIndex id [] = none
+pairIndex id (p ∷ ps) = cond (eqb (p .names .id) id) (some 0) (later (pairIndex id ps))
 
 -- the last pair takes the gap's place
 unfoldable pub swapRemove : List Pair → ℕ → Pair → List Pair
@@ -95,4 +95,4 @@ removedFound g (some i) [] = g
 removedFound g (some i) (p ∷ ps) = removedAt g i (getD (p ∷ ps) i p)
 
 unfoldable pub plainRemove : ℕ → Graph → Graph
-plainRemove id g = removedFound g (position id (g .pairs)) (g .pairs)
+plainRemove id g = removedFound g (pairIndex id (g .pairs)) (g .pairs)

@@ -29,8 +29,9 @@ projected normal p = record { point = reject (p .anchor1) normal; depth = maximu
 unfoldable pub weight : Float → Projected → Float
 weight squared p = maximum squared tiny ⊗ p .depth
 
-abbrev pub apart : ℕ → ℕ → Bool
-apart i k = not (eqb k i)
+-- k is not i
+abbrev pub otherThan : ℕ → ℕ → Bool
+otherThan i k = not (eqb k i)
 
 -- p gives the points by their numbers, and count is how many there are
 -- the earliest greatest weight
@@ -39,22 +40,22 @@ point1 count p = leader greater (λ k. weight (squaredLength (p k .point)) (p k)
 
 -- the same by distance from point 1, which is i
 unfoldable pub point2 : ℕ → (ℕ → Projected) → ℕ → Option ℕ
-point2 count p i = leader greater (λ k. weight (squaredDistance (p k .point) (p i .point)) (p k)) (apart i) lowest count .who
+point2 count p i = leader greater (λ k. weight (squaredDistance (p k .point) (p i .point)) (p k)) (otherThan i) lowest count .who
 
 -- ((point2 − point1) cross normal) · (point − point1), for points 1 and 2 at i and j
-unfoldable pub side : Vec3 → (ℕ → Projected) → ℕ → ℕ → ℕ → Float
-side normal p i j k = dot (cross (p j .point -v p i .point) normal) (p k .point -v p i .point)
+unfoldable pub sideValue : Vec3 → (ℕ → Projected) → ℕ → ℕ → ℕ → Float
+sideValue normal p i j k = dot (cross (p j .point -v p i .point) normal) (p k .point -v p i .point)
 
 -- neither of the two
 abbrev pub rest : ℕ → ℕ → ℕ → Bool
-rest i j k = apart i k && apart j k
+rest i j k = otherThan i k && otherThan j k
 
 -- the one furthest below 0, and the one furthest above, the earliest of equals, if any
 unfoldable pub point3 : Vec3 → ℕ → (ℕ → Projected) → ℕ → ℕ → Option ℕ
-point3 normal count p i j = leader less (side normal p i j) (rest i j) zeroF count .who
+point3 normal count p i j = leader less (sideValue normal p i j) (rest i j) zeroF count .who
 
 unfoldable pub point4 : Vec3 → ℕ → (ℕ → Projected) → ℕ → ℕ → Option ℕ
-point4 normal count p i j = leader greater (side normal p i j) (rest i j) zeroF count .who
+point4 normal count p i j = leader greater (sideValue normal p i j) (rest i j) zeroF count .who
 
 -- a number or none, as a list
 abbrev pub listed : Option ℕ → List ℕ

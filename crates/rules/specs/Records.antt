@@ -70,5 +70,6 @@ pub record Pair : Type 0 where
   pub flags : PairFlags
   pub manifolds : List Manifold
   pub countChange : ℤ
+  -- the stored speculative distance
   pub speculative : Float
   pub cache : Option Cache

@@ -35,9 +35,9 @@ squared x = x ⊗ x
 unfoldable pub radius : Side → Float
 radius a = cond (a .fixed) zeroF (a .sweepRadius)
 
--- the minimum of each body's squared dot of rotation and cached rotation
-unfoldable pub leastTurn : Side → Side → Cache → Float
-leastTurn a b k = minimum (squared (dot4 (a .pose .rotation) (k .rotation1))) (squared (dot4 (b .pose .rotation) (k .rotation2)))
+-- the minimum of each body's squared dot of rotation and cached rotation: a squared cosine of half the angle turned, so the smaller the more a body has turned
+unfoldable pub leastSquaredDot : Side → Side → Cache → Float
+leastSquaredDot a b k = minimum (squared (dot4 (a .pose .rotation) (k .rotation1))) (squared (dot4 (b .pose .rotation) (k .rotation2)))
 
 -- between the current and cached relative translation
 unfoldable pub squaredMotion : Side → Side → Cache → Float
@@ -48,25 +48,30 @@ unfoldable pub arc : Side → Side → Cache → Float
 arc a b k = chordLength (times (inverse (k .relativeRotation)) (relative (a .pose) (b .pose) .rotation)) ⊗ maximum (radius a) (radius b)
 
 -- Each test abandons recycling where it holds, so a NaN abandons nothing.
-abbrev pub disabled : Settings → Bool
-disabled s = le (scaledRecycle s) zeroF
+-- recycle distance ≤ 0: recycling is off
+abbrev pub recyclingOff : Settings → Bool
+recyclingOff s = le (scaledRecycle s) zeroF
 
-abbrev pub tooTurned : Settings → Float → Bool
-tooTurned s turn = le turn (s .recycleCosine)
+-- the least squared dot ≤ the given squared cosine of half the recycle angle
+abbrev pub rotatedTooFar : Settings → Float → Bool
+rotatedTooFar s squaredDot = le squaredDot (s .recycleCosine)
 
-abbrev pub tooFar : Float → Float → Bool
-tooFar tolerance d2 = le (tolerance ⊗ tolerance) d2
+-- squared distance ≥ tolerance × tolerance
+abbrev pub movedTooFar : Float → Float → Bool
+movedTooFar tolerance d2 = le (tolerance ⊗ tolerance) d2
 
-abbrev pub tooSwept : Float → Float → Float → Bool
-tooSwept tolerance d2 swept = le (tolerance ⊖ root d2) swept
+-- arc ≥ tolerance − distance
+abbrev pub arcTooLong : Float → Float → Float → Bool
+arcTooLong tolerance d2 arcLength = le (tolerance ⊖ root d2) arcLength
 
+-- no cache, and there is nothing to recycle; else no test abandons it
 unfoldable pub recycles : Settings → Bool → Side → Side → Option Cache → Bool
 recycles s touching a b none = false
 recycles s touching a b (some k) =
-    not (disabled s)
-    && (not (tooTurned s (leastTurn a b k))
-    && (not (tooFar (toleranceFor s touching) (squaredMotion a b k))
-    && not (tooSwept (toleranceFor s touching) (squaredMotion a b k) (arc a b k))))
+    not (recyclingOff s)
+    && (not (rotatedTooFar s (leastSquaredDot a b k))
+    && (not (movedTooFar (toleranceFor s touching) (squaredMotion a b k))
+    && not (arcTooLong (toleranceFor s touching) (squaredMotion a b k) (arc a b k))))
 
 -- ---- rule 5
 abbrev pub withPenetration : Point → Float → Point

@@ -1,9 +1,9 @@
 -- The plain run of a list of calls, the replay of its constraint changes, and what the two provisos of the replay say. Definitions only.
--- A call's arguments are words; here they are read already, and `refusal` is the table's number for them, 0 for none.
-use Prim.Native.Nat.{ℕ, zero, suc, _+_, _<_}
+-- A call's arguments are words; here they are read already, and `refusal` gives the table's number for them on a graph, 0 for none.
+use Prim.Native.Nat.{ℕ, zero, suc, _<_}
 use mathlib.Core.Path.{_≡_}
-use mathlib.Core.Bool.{Bool, true, false, cond, not, _&&_}
-use mathlib.Core.List.{List, [], _∷_, map, List·Memᴰ}
+use mathlib.Core.Bool.{Bool, true, false, cond, _&&_}
+use mathlib.Core.List.{List, [], _∷_, List·Memᴰ}
 use mathlib.Core.Option.{Option, none, some}
 use lib.Dec.{eqb, T}
 use lib.ListN.{length}
@@ -12,42 +12,35 @@ use Rattle.rules.specs.Inputs.{Inputs}
 use Rattle.rules.specs.Records.{Pair}
 use Rattle.rules.specs.Update.{updated}
 use Rattle.rules.specs.Graph.{Graph, emptyGraph, Addition, plainAdd, newId}
-use Rattle.rules.specs.Stripped.{stripped}
-use Rattle.rules.specs.Status.{Change, start, stop, count, Stepped, plainStep}
+use Rattle.rules.specs.Solver.{Write, plainWrites}
+use Rattle.rules.specs.Status.{Change, start, stop, count, StepResult, plainStep}
 
--- what a solver may write between two calls: impulses of stored points, and nothing else
-pub record Impulses : Type 0 where
-  pub write : Pair → Pair
-  pub keeps : (p : Pair) → stripped (write p) ≡ stripped p
-
+-- a call, or what a solver writes between two calls
 pub data Entry : Type 0 where
   addition : (refusal : Graph → ℕ) → Addition → Entry
   stepping : (refusal : Graph → ℕ) → Inputs → Entry
-  impulses : Impulses → Entry
+  impulses : List Write → Entry
 
 -- what a call answers
 pub data Answer : Type 0 where
   refused : ℕ → Answer
   added : ℕ → Answer
-  stepped : Stepped → Answer
+  stepped : StepResult → Answer
   silent : Answer
 
 pub record After : Type 0 where
   pub graph : Graph
   pub answer : Answer
 
-abbrev pub withPairs : Graph → List Pair → Graph
-withPairs g ps = record { capacity = g .capacity; given = g .given; free = g .free; pairs = ps }
-
 abbrev pub unlessRefused : ℕ → Graph → After → After
 unlessRefused zero g a = a
 unlessRefused (suc n) g a = record { graph = g; answer = refused (suc n) }
 
 unfoldable pub plainCall : Entry → Graph → After
-unfolding plainAdd plainStep newId
+unfolding plainAdd plainStep newId plainWrites
 plainCall (addition r a) g = unlessRefused (r g) g (record { graph = plainAdd a g; answer = added (newId g) })
 plainCall (stepping r i) g = unlessRefused (r g) g (record { graph = plainStep i g .graph; answer = stepped (plainStep i g) })
-plainCall (impulses w) g = record { graph = withPairs g (map (w .write) (g .pairs)); answer = silent }
+plainCall (impulses ws) g = record { graph = plainWrites ws g; answer = silent }
 
 -- the graph and the answer after each entry
 unfoldable pub plainRun : List Entry → Graph → List After
@@ -69,7 +62,7 @@ Held = ℕ → Option ℤ
 abbrev pub holding : Held → ℕ → Option ℤ → Held
 holding h id v k = cond (eqb k id) v (h k)
 
--- the number of manifolds that a contact has in a graph
+-- the number of manifolds that a contact has in a graph, 0 where it is not there
 unfoldable pub manifoldsOf : ℕ → List Pair → ℤ
 manifoldsOf id [] = pos 0
 manifoldsOf id (p ∷ ps) = cond (eqb (p .names .id) id) (pos (length (p .manifolds))) (manifoldsOf id ps)
@@ -90,22 +83,7 @@ unfolding replayOne
 replay ps [] h = h
 replay ps (c ∷ cs) h = replay ps cs (replayOne ps c h)
 
--- the pairs as the step's updates left them, before the status pass removes any: the number that a contact 'then has'
-abbrev pub afterUpdates : Inputs → Graph → List Pair
-afterUpdates i g = map (λ (p : Pair). updated i p .pair) (g .pairs)
-
-unfoldable pub replayEntry : Entry → Graph → Held → Held
-unfolding replay plainStep
-replayEntry (addition r a) g h = h
-replayEntry (stepping r i) g h = cond (eqb (r g) 0) (replay (afterUpdates i g) (plainStep i g .changes) h) h
-replayEntry (impulses w) g h = h
-
-unfoldable pub replayRun : List Entry → Graph → Held → Held
-unfolding replayEntry plainCall
-replayRun [] g h = h
-replayRun (e ∷ es) g h = replayRun es (plainCall e g .graph) (replayEntry e g h)
-
--- the same from the answers alone: the number that a started contact then has is read in the graph that its step left
+-- of the answers of a run: the number of manifolds that a started contact then has is read in the graph that its step left
 unfoldable pub replayAnswer : Answer → Held → Held
 unfolding replay
 replayAnswer (refused n) h = h
@@ -145,7 +123,7 @@ unfoldable pub ProvisosAt : Entry → Graph → Type 0
 ProvisosAt (addition r a) g = Unit {0}
 ProvisosAt (stepping r i) g =
     T (eqb (r g) 0) → (p : Pair) → List·Memᴰ p (g .pairs) → (namesBoth (updated i p .pair) × keepsGenerating i p)
-ProvisosAt (impulses w) g = Unit {0}
+ProvisosAt (impulses ws) g = Unit {0}
 
 unfoldable pub Provisos : List Entry → Graph → Type 0
 unfolding ProvisosAt plainCall
@@ -156,7 +134,7 @@ Provisos (e ∷ es) g = ProvisosAt e g × Provisos es (plainCall e g .graph)
 unfoldable pub RoomAt : Entry → Graph → Type 0
 RoomAt (addition r a) g = T (eqb (r g) 0) → length (g .pairs) < g .capacity
 RoomAt (stepping r i) g = Unit {0}
-RoomAt (impulses w) g = Unit {0}
+RoomAt (impulses ws) g = Unit {0}
 
 unfoldable pub Room : List Entry → Graph → Type 0
 unfolding RoomAt plainCall
@@ -164,11 +142,6 @@ Room [] g = Unit {0}
 Room (e ∷ es) g = RoomAt e g × Room es (plainCall e g .graph)
 
 -- the claim: what the replay holds is what the graph holds
-abbrev pub ReplayHolds : Type 0
-ReplayHolds =
-    (n : ℕ) (es : List Entry) → Provisos es (emptyGraph n) → Room es (emptyGraph n) →
-    (id : ℕ) → replayRun es (emptyGraph n) (λ _. none) id ≡ heldIn (plainGraph es (emptyGraph n) .pairs) id
-
 abbrev pub AnswersReplayHolds : Type 0
 AnswersReplayHolds =
     (n : ℕ) (es : List Entry) → Provisos es (emptyGraph n) → Room es (emptyGraph n) →

@@ -8,7 +8,7 @@ use lib.ListN.{getD, set}
 use lib.IntN.{ℤ, pos}
 use lib.Ieee.{Float}
 use Rattle.math.specs.Constants.{zeroF}
-use Rattle.rules.specs.Graph.{Graph, position, removedAt}
+use Rattle.rules.specs.Graph.{Graph, pairIndex, removedAt}
 use Rattle.rules.specs.Inputs.{Inputs}
 use Rattle.rules.specs.Records.{PairFlags, Names, Pair}
 use Rattle.rules.specs.Update.{isRecycled, Updated, updated, nonZero}
@@ -53,8 +53,9 @@ countOf n d = both (n .body1) (n .body2)
     both (some a) none = []
     both (some a) (some b) = count (n .id) a b d ∷ []
 
-abbrev pub withMarks : Pair → Bool → PairFlags → ℤ → Pair
-withMarks p edgeTouching f change = record {
+-- the edge's TOUCHING, the pair's flags and its count change, set to these
+abbrev pub withStatus : Pair → Bool → PairFlags → ℤ → Pair
+withStatus p edgeTouching f change = record {
   names = p .names;
   edge = record { touching = edgeTouching; contactEvents = p .edge .contactEvents };
   flags = f;
@@ -64,20 +65,21 @@ withMarks p edgeTouching f change = record {
   cache = p .cache;
 }
 
-abbrev pub marks : PairFlags → Bool → Bool → Bool → PairFlags
-marks f on off generating = record {
+-- STARTED_TOUCHING, STOPPED_TOUCHING and STARTED_GENERATING_CONSTRAINTS set to these, in this order
+abbrev pub withStatusMarks : PairFlags → Bool → Bool → Bool → PairFlags
+withStatusMarks f startedTouching stoppedTouching startedGenerating = record {
   touching = f .touching;
   disjointAabb = f .disjointAabb;
-  startedTouching = on;
-  stoppedTouching = off;
+  startedTouching = startedTouching;
+  stoppedTouching = stoppedTouching;
   generateConstraints = f .generateConstraints;
-  startedGenerating = generating;
+  startedGenerating = startedGenerating;
   static1 = f .static1;
   static2 = f .static2;
   modifyContacts = f .modifyContacts;
 }
 
--- the pair at place i is written anew, with what is said
+-- the pair at place i is written anew, with the events and changes that its visit lists
 abbrev pub written : Pass → ℕ → Pair → List Event → List Change → Pass
 written s i p es cs = record {
   graph = record { capacity = s .graph .capacity; given = s .graph .given; free = s .graph .free; pairs = set (s .graph .pairs) i p };
@@ -85,6 +87,7 @@ written s i p es cs = record {
   changes = s .changes ++ cs;
 }
 
+-- removal swaps the last pair into the gap
 abbrev pub removed : Pass → ℕ → Pair → List Event → List Change → Pass
 removed s i p es cs = record {
   graph = removedAt (s .graph) i p;
@@ -92,23 +95,29 @@ removed s i p es cs = record {
   changes = s .changes ++ cs;
 }
 
--- the first case that holds is taken
+-- The first case that holds is taken.
 unfoldable pub visitAt : Pass → ℕ → Pair → Pass
 visitAt s i p =
     let f = p .flags in
     let n = p .names in
+    -- Disjoint: an end event if the edge has TOUCHING and CONTACT_EVENTS; a stop if generating with both bodies named; removal
     cond (f .disjointAabb)
     (removed s i p (eventIf (p .edge .touching && p .edge .contactEvents) (ended n)) (stopIf (f .generateConstraints) n))
+    -- Started: a start event if the edge has CONTACT_EVENTS; edge TOUCHING set, both STARTED marks cleared; a start change if generating
     (cond (f .startedTouching)
-    (written s i (withMarks p true (marks f false (f .stoppedTouching) false) (p .countChange))
+    (written s i (withStatus p true (withStatusMarks f false (f .stoppedTouching) false) (p .countChange))
     (eventIf (p .edge .contactEvents) (started n)) (cond (f .generateConstraints) (start (n .id) ∷ []) []))
+    -- Stopped: an end event if CONTACT_EVENTS; edge TOUCHING and STOPPED_TOUCHING cleared; a stop as above
     (cond (f .stoppedTouching)
-    (written s i (withMarks p false (marks f (f .startedTouching) false (f .startedGenerating)) (p .countChange))
+    (written s i (withStatus p false (withStatusMarks f (f .startedTouching) false (f .startedGenerating)) (p .countChange))
     (eventIf (p .edge .contactEvents) (ended n)) (stopIf (f .generateConstraints) n))
+    -- Started generating, touching: mark cleared; a start change
     (cond (f .touching && f .startedGenerating)
-    (written s i (withMarks p (p .edge .touching) (marks f (f .startedTouching) (f .stoppedTouching) false) (p .countChange)) [] (start (n .id) ∷ []))
+    (written s i (withStatus p (p .edge .touching) (withStatusMarks f (f .startedTouching) (f .stoppedTouching) false) (p .countChange)) [] (start (n .id) ∷ []))
+    -- Touching, generating, count change not 0: it becomes 0 and is written if both bodies are named
     (cond (f .touching && (f .generateConstraints && nonZero (p .countChange)))
-    (written s i (withMarks p (p .edge .touching) f (pos 0)) [] (countOf n (p .countChange)))
+    (written s i (withStatus p (p .edge .touching) f (pos 0)) [] (countOf n (p .countChange)))
+    -- no case holds
     s))))
 
 unfoldable pub visitFound : Pass → Option ℕ → List Pair → Pass
@@ -117,41 +126,43 @@ visitFound s (some i) [] = s
 visitFound s (some i) (p ∷ ps) = visitAt s i (getD (p ∷ ps) i p)
 
 unfoldable pub visit : Pass → ℕ → Pass
-visit s id = visitFound s (position id (s .graph .pairs)) (s .graph .pairs)
+visit s id = visitFound s (pairIndex id (s .graph .pairs)) (s .graph .pairs)
 
 unfoldable pub visitAll : Pass → List ℕ → Pass
 visitAll s [] = s
 visitAll s (id ∷ ids) = visitAll (visit s id) ids
 
--- the ids below n whose update set their bit, ascending
+-- whether the update of the pair with that id set its bit
 unfoldable pub bitOf : ℕ → List Updated → Bool
 bitOf id [] = false
 bitOf id (u ∷ us) = cond (eqb (u .pair .names .id) id) (u .bit) (bitOf id us)
 
+-- of the k ids from `from` on, those whose update set their bit, ascending
 unfoldable pub standingBits : ℕ → ℕ → List Updated → List ℕ
 standingBits from zero us = []
 standingBits from (suc k) us = cond (bitOf from us) (from ∷ standingBits (suc from) k us) (standingBits (suc from) k us)
 
-unfoldable pub distanceOf : List Updated → ℕ → Float
-distanceOf [] id = zeroF
-distanceOf (u ∷ us) id = cond (eqb (u .pair .names .id) id) (u .distance) (distanceOf us id)
+-- the reported contact distance by contact id, +0 for any other id
+unfoldable pub maxContactDistanceOf : List Updated → ℕ → Float
+maxContactDistanceOf [] id = zeroF
+maxContactDistanceOf (u ∷ us) id = cond (eqb (u .pair .names .id) id) (u .maxContactDistance) (maxContactDistanceOf us id)
 
 unfoldable pub recycledCount : List Updated → ℕ
 recycledCount [] = 0
 recycledCount (u ∷ us) = cond (isRecycled (u .way)) 1 0 + recycledCount us
 
 -- what a step answers
-pub record Stepped : Type 0 where
+pub record StepResult : Type 0 where
   pub graph : Graph
   pub events : List Event
   pub changes : List Change
-  pub distance : ℕ → Float
+  pub maxContactDistance : ℕ → Float
   pub recycled : ℕ
 
 -- each active pair alone, then the status pass
-unfoldable pub plainStep : Inputs → Graph → Stepped
+unfoldable pub plainStep : Inputs → Graph → StepResult
 plainStep i g =
     let us = map (updated i) (g .pairs) in
     let g' : Graph = record { capacity = g .capacity; given = g .given; free = g .free; pairs = map (λ (u : Updated). u .pair) us } in
     let s = visitAll (record { graph = g'; events = []; changes = [] }) (standingBits 0 (g .capacity) us) in
-    record { graph = s .graph; events = s .events; changes = s .changes; distance = distanceOf us; recycled = recycledCount us }
+    record { graph = s .graph; events = s .events; changes = s .changes; maxContactDistance = maxContactDistanceOf us; recycled = recycledCount us }

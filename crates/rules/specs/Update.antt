@@ -10,7 +10,7 @@ use lib.ListN.{length}
 use Rattle.math.specs.Constants.{zeroF, tenth}
 use Rattle.math.specs.Floats.{_⊕_, _⊗_}
 use Rattle.math.specs.Pose.{relative}
-use Rattle.rules.specs.Filtering.{filtered, isEmpty, nonEmpty}
+use Rattle.rules.specs.Filtering.{filtered, isEmpty, withoutEmpty}
 use Rattle.rules.specs.Inputs.{Settings, Collider, Body, ProposedManifold, Inputs}
 use Rattle.rules.specs.Matching.{byNumber, matchAll}
 use Rattle.rules.specs.Records.{Manifold, Cache, PairFlags, Pair}
@@ -18,25 +18,25 @@ use Rattle.rules.specs.Recycling.{recycles, recycledManifold}
 use Rattle.rules.specs.Sides.{overlap, interact, Side, sideOf}
 use Rattle.rules.specs.Surface.{Surface, surfaceOf}
 
--- which way an update went: ended by rule 1, by rule 2, by rule 5, or made in full
+-- which way an update went: ended by rule 1, by rule 2 (layers that don't interact count with it), by rule 5, or made in full
 pub data Way : Type 0 where
   skipped : Way
-  apart : Way
+  aabbsDisjoint : Way
   recycled : Way
   full : Way
 
 abbrev pub isRecycled : Way → Bool
 isRecycled skipped = false
-isRecycled apart = false
+isRecycled aabbsDisjoint = false
 isRecycled recycled = true
 isRecycled full = false
 
--- the pair, the way it went, its status bit, and the reported contact distance
+-- the pair, the way it went, its status bit, and the reported contact distance: +0 where rule 8 was not reached
 pub record Updated : Type 0 where
   pub pair : Pair
   pub way : Way
   pub bit : Bool
-  pub distance : Float
+  pub maxContactDistance : Float
 
 -- the body that a collider names
 abbrev pub bodyOf : (ℕ → Option Body) → Option ℕ → Option Body
@@ -129,9 +129,9 @@ nonZero (negsuc n) = true
 
 -- rules 9 and 10: the manifolds that remain
 unfoldable pub remaining : Float → Side → Side → Surface → Bool → Bool → List ProposedManifold → List Manifold
-remaining stepTime a b f modify answer proposal = hooked modify answer (nonEmpty (map (filtered stepTime a b f) proposal))
+remaining stepTime a b f modify answer proposal = hooked modify answer (withoutEmpty (map (filtered stepTime a b f) proposal))
 
--- Rules 6, 10 and 12: marks are set, and none is cleared but TOUCHING and GENERATE_CONSTRAINTS.
+-- Rules 3, 6, 10 and 12: TOUCHING, GENERATE_CONSTRAINTS, STATIC1 and STATIC2 are overwritten; the STARTED and STOPPED marks are set, never cleared; the rest stay.
 unfoldable pub renewedFlags : PairFlags → Bool → Bool → Bool → Bool → PairFlags
 renewedFlags f s1 s2 on touching =
     record {
@@ -168,24 +168,26 @@ renewed s answer proposal c1 c2 a b p =
       speculative = zeroF;
       cache = some (cacheOf a b);
     } in
-    record { pair = q; way = full; bit = statusBit (p .flags) on touching change; distance = f .margins ⊕ f .distance }
+    record { pair = q; way = full; bit = statusBit (p .flags) on touching change; maxContactDistance = f .margins ⊕ f .effectiveSpeculative }
 
--- rules 4 to 12, once the boxes overlap and the layers interact
+-- Rules 4 to 12, once the boxes overlap and the layers interact: whether the pair is recycled, and its cache.
+-- A recycled pair has a cache; with no cache, recycling is abandoned (rule 4).
 unfoldable pub overlapping : Settings → Bool → List ProposedManifold → Collider → Collider → Side → Side → Pair → Bool → Option Cache → Updated
-overlapping s answer proposal c1 c2 a b p true (some k) = record { pair = recycledPair a b k p; way = recycled; bit = false; distance = zeroF }
+overlapping s answer proposal c1 c2 a b p true (some k) = record { pair = recycledPair a b k p; way = recycled; bit = false; maxContactDistance = zeroF }
 overlapping s answer proposal c1 c2 a b p true none = renewed s answer proposal c1 c2 a b p
 overlapping s answer proposal c1 c2 a b p false k = renewed s answer proposal c1 c2 a b p
 
--- rules 1 to 12, from the settings, the bodies, the hook's answer, the proposal, the pair and its two colliders
+-- Rules 1 to 12, from the settings, the bodies, the hook's answer, the proposal, the pair and its two colliders.
+-- Rule 1: either collider absent, and the pair is skipped, nothing in it changes.
 unfoldable pub updatedBetween : Settings → (ℕ → Option Body) → Bool → List ProposedManifold → Pair → Option Collider → Option Collider → Updated
-updatedBetween s body answer proposal p none c2 = record { pair = p; way = skipped; bit = false; distance = zeroF }
-updatedBetween s body answer proposal p (some c1) none = record { pair = p; way = skipped; bit = false; distance = zeroF }
+updatedBetween s body answer proposal p none c2 = record { pair = p; way = skipped; bit = false; maxContactDistance = zeroF }
+updatedBetween s body answer proposal p (some c1) none = record { pair = p; way = skipped; bit = false; maxContactDistance = zeroF }
 updatedBetween s body answer proposal p (some c1) (some c2) =
     let a = sideOf c1 (bodyOf body (c1 .body)) in
     let b = sideOf c2 (bodyOf body (c2 .body)) in
     cond (overlap c1 c2 (p .speculative) && interact c1 c2)
     (overlapping s answer proposal c1 c2 a b p (recycles s (p .flags .touching) a b (p .cache)) (p .cache))
-    (record { pair = disjoint p; way = apart; bit = true; distance = zeroF })
+    (record { pair = disjoint p; way = aabbsDisjoint; bit = true; maxContactDistance = zeroF })
 
 -- what a step's inputs make of a pair
 unfoldable pub updated : Inputs → Pair → Updated

@@ -1,6 +1,6 @@
 pub mod Verdicts
 pub mod Settled
-pub mod Said
+pub mod EventsAndChanges
 pub mod Listed
 pub mod Pass
 pub mod VerdictLaws

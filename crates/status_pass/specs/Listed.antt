@@ -7,11 +7,11 @@ use lib.ListN.{length}
 use Rattle.rows.specs.Rows.{put, each}
 use Rattle.rules.specs.Records.{Names}
 use Rattle.rules.specs.Status.{Event, started, ended, Change, start, stop, count}
-use Rattle.rule_laws.specs.Visit.{say, hear}
+use Rattle.rule_laws.specs.Visit.{changesFor, eventsFor}
 use Rattle.words.specs.Words.{wordAt}
 use Rattle.contact_records.specs.Layout as record-place
 use Rattle.contact_records.specs.Recorded.{intOf, namesAt, pairAt}
-use Rattle.status_pass.specs.Said.{eventSize, eventWords, changeSize, changeWords}
+use Rattle.status_pass.specs.EventsAndChanges.{eventSize, eventWords, changeSize, changeWords}
 use Rattle.status_pass.specs.Verdicts.{plainVerdict}
 use Rattle.status_pass.specs.declared.verdict.Verdict.{Verdict}
 use Rattle.status_pass.specs.declared.events.EventKind.{EventKind}
@@ -46,10 +46,10 @@ changesBy change.Count w id = count id (body1At w) (body2At w) (intOf (wordAt w 
 
 -- The promises of `event_of` and `change_of`, under whatever id.
 pub record EventIs (w : List ℕ) (v : Verdict) (r : EventKind) : Type 0 where
-  pub under : (id : ℕ) → eventsBy r (namesAt w 0 id) ≡ hear (plainVerdict v) (pairAt w 0 id)
+  pub under : (id : ℕ) → eventsBy r (namesAt w 0 id) ≡ eventsFor (plainVerdict v) (pairAt w 0 id)
 
 pub record ChangeIs (w : List ℕ) (v : Verdict) (r : ChangeKind) : Type 0 where
-  pub under : (id : ℕ) → changesBy r w id ≡ say (plainVerdict v) (pairAt w 0 id)
+  pub under : (id : ℕ) → changesBy r w id ≡ changesFor (plainVerdict v) (pairAt w 0 id)
 
 -- n elements are written in the row, of that many words each, and these after them: it is left as row′, and r are written then
 pub record Appended {A : Type 0} (words : A → List ℕ) (size : ℕ) (row : List ℕ) (n : ℕ) (xs : List A) (row′ : List ℕ) (r : ℕ) : Type 0 where

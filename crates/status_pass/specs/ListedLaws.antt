@@ -12,16 +12,16 @@ use Rattle.rows.specs.Rows.{put}
 use Rattle.rules.specs.Records.{Names}
 use Rattle.rules.specs.Status.{Event, started, ended, eventIf, Change, start, stop, count, stopIf, countOf}
 use Rattle.rule_laws.specs.Passing.{naming}
-use Rattle.rule_laws.specs.Visit.{say, hear}
+use Rattle.rule_laws.specs.Visit.{changesFor, eventsFor}
 use Rattle.words.specs.Words.{wordAt}
 use Rattle.contact_records.specs.Ints.{word-back}
 use Rattle.contact_records.specs.Recorded.{markAt, intOf, flagsAt, edgeAt, namesAt, pairAt}
 use Rattle.contact_records.specs.Written.{markWord, optionalWords, intWord}
-use Rattle.status_pass.specs.Said.{namedWords, eventWords, changeWords}
+use Rattle.status_pass.specs.EventsAndChanges.{namedWords, eventWords, changeWords}
 use Rattle.status_pass.specs.Verdicts.{plainVerdict}
 use Rattle.status_pass.specs.Listed.{eventWhere, eventsBy, changeWhere, changesBy, body1At, body2At, EventIs, ChangeIs, EventsWritten, ChangesWritten}
 use Rattle.status_pass.specs.declared.verdict.Verdict.{Verdict}
-use Rattle.status_pass.specs.declared.verdict.Verdict.the-variants.{Vanishes, Starts, Stops, Generates, Recounts, Stands}
+use Rattle.status_pass.specs.declared.verdict.Verdict.the-variants.{Vanishes, Starts, Stops, Generates, Recounts, Persists}
 use Rattle.status_pass.specs.declared.events.EventKind.{EventKind}
 use Rattle.status_pass.specs.declared.events.EventKind.the-variants as event
 use Rattle.status_pass.specs.declared.changes.ChangeKind.{ChangeKind}
@@ -71,21 +71,21 @@ module _ (w : List ℕ) (kind id : ℕ) where
 
 -- what is stored after n events
 module _ (w : List ℕ) (id : ℕ) {v : Verdict} {r : EventKind} (is : EventIs w v r) (row : List ℕ) (n : ℕ) where
-  pub event-none : r ≡ event.Nothing → EventsWritten row n (hear (plainVerdict v) (pairAt w 0 id)) row n
+  pub event-none : r ≡ event.Nothing → EventsWritten row n (eventsFor (plainVerdict v) (pairAt w 0 id)) row n
   unfolding put
   event-none e = record { stored = rw (← is .under id, e); count = rw (← is .under id, e) (sym (add-zero n)) }
 
   one-event : (x : Event) {ws row′ : List ℕ} → eventsBy r (namesAt w 0 id) ≡ x ∷ [] → ws ≡ eventWords x → row′ ≡ put row (n * 8) ws
-      → EventsWritten row n (hear (plainVerdict v) (pairAt w 0 id)) row′ (n + 1)
+      → EventsWritten row n (eventsFor (plainVerdict v) (pairAt w 0 id)) row′ (n + 1)
   one-event x e p q = record { stored = q ∙ rw (← is .under id, e) (ap (put row (n * 8)) (p ∙ sym (append-nil (eventWords x)))); count = rw (← is .under id, e) }
 
   pub event-started : {ws row′ : List ℕ} → r ≡ event.Started → ws ≡ namedWords 0 (namesAt w 0 id) → row′ ≡ put row (n * 8) ws
-      → EventsWritten row n (hear (plainVerdict v) (pairAt w 0 id)) row′ (n + 1)
+      → EventsWritten row n (eventsFor (plainVerdict v) (pairAt w 0 id)) row′ (n + 1)
   unfolding eventWords
   event-started e p q = one-event (started (namesAt w 0 id)) (ap (λ (k : EventKind). eventsBy k (namesAt w 0 id)) e) p q
 
   pub event-ended : {ws row′ : List ℕ} → r ≡ event.Ended → ws ≡ namedWords 1 (namesAt w 0 id) → row′ ≡ put row (n * 8) ws
-      → EventsWritten row n (hear (plainVerdict v) (pairAt w 0 id)) row′ (n + 1)
+      → EventsWritten row n (eventsFor (plainVerdict v) (pairAt w 0 id)) row′ (n + 1)
   unfolding eventWords
   event-ended e p q = one-event (ended (namesAt w 0 id)) (ap (λ (k : EventKind). eventsBy k (namesAt w 0 id)) e) p q
 
@@ -134,26 +134,26 @@ module _ (w : List ℕ) {v : Verdict} {r : ChangeKind} where
 
 -- what is stored after n changes
 module _ (w : List ℕ) (id : ℕ) {v : Verdict} {r : ChangeKind} (is : ChangeIs w v r) (row : List ℕ) (n : ℕ) where
-  pub change-none : r ≡ change.Nothing → ChangesWritten row n (say (plainVerdict v) (pairAt w 0 id)) row n
+  pub change-none : r ≡ change.Nothing → ChangesWritten row n (changesFor (plainVerdict v) (pairAt w 0 id)) row n
   unfolding put
   change-none e = record { stored = rw (← is .under id, e); count = rw (← is .under id, e) (sym (add-zero n)) }
 
   one-change : (x : Change) {ws row′ : List ℕ} → changesBy r w id ≡ x ∷ [] → ws ≡ changeWords x → row′ ≡ put row (n * 5) ws
-      → ChangesWritten row n (say (plainVerdict v) (pairAt w 0 id)) row′ (n + 1)
+      → ChangesWritten row n (changesFor (plainVerdict v) (pairAt w 0 id)) row′ (n + 1)
   one-change x e p q = record { stored = q ∙ rw (← is .under id, e) (ap (put row (n * 5)) (p ∙ sym (append-nil (changeWords x)))); count = rw (← is .under id, e) }
 
   pub change-start : {row′ : List ℕ} → r ≡ change.Start → row′ ≡ put row (n * 5) (0 ∷ id ∷ 0 ∷ 0 ∷ 0 ∷ [])
-      → ChangesWritten row n (say (plainVerdict v) (pairAt w 0 id)) row′ (n + 1)
+      → ChangesWritten row n (changesFor (plainVerdict v) (pairAt w 0 id)) row′ (n + 1)
   unfolding changeWords
   change-start e q = one-change (start id) (ap (λ (k : ChangeKind). changesBy k w id) e) refl q
 
   pub change-stop : {a b : ℕ} {row′ : List ℕ} → r ≡ change.Stop → a ≡ wordAt w 3 → b ≡ wordAt w 5 → row′ ≡ put row (n * 5) (1 ∷ id ∷ a ∷ b ∷ 0 ∷ [])
-      → ChangesWritten row n (say (plainVerdict v) (pairAt w 0 id)) row′ (n + 1)
+      → ChangesWritten row n (changesFor (plainVerdict v) (pairAt w 0 id)) row′ (n + 1)
   unfolding changeWords
   change-stop e p s q = one-change (stop id (body1At w) (body2At w)) (ap (λ (k : ChangeKind). changesBy k w id) e) (λ i. 1 ∷ id ∷ p i ∷ s i ∷ 0 ∷ []) q
 
   pub change-count : {a b z : ℕ} {row′ : List ℕ} → r ≡ change.Count → a ≡ wordAt w 3 → b ≡ wordAt w 5 → z ≡ wordAt w 18 → z < 2 ^ 32
-      → row′ ≡ put row (n * 5) (2 ∷ id ∷ a ∷ b ∷ z ∷ []) → ChangesWritten row n (say (plainVerdict v) (pairAt w 0 id)) row′ (n + 1)
+      → row′ ≡ put row (n * 5) (2 ∷ id ∷ a ∷ b ∷ z ∷ []) → ChangesWritten row n (changesFor (plainVerdict v) (pairAt w 0 id)) row′ (n + 1)
   unfolding changeWords
   change-count {z = z} e p s t l q =
       one-change (count id (body1At w) (body2At w) (intOf (wordAt w 18))) (ap (λ (k : ChangeKind). changesBy k w id) e)

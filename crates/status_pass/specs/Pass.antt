@@ -8,7 +8,7 @@ use Rattle.rows.specs.Rows.{part, put}
 use Rattle.rows.specs.Slots.{Distinct}
 use Rattle.rules.specs.Records.{Pair}
 use Rattle.rules.specs.Status.{Event, Change, Pass}
-use Rattle.rule_laws.specs.Visit.{Verdict, vanishes, starts, stops, generates, recounts, stands, verdict, say, hear}
+use Rattle.rule_laws.specs.Visit.{Verdict, vanishes, starts, stops, generates, recounts, persists, verdict, changesFor, eventsFor}
 use Rattle.contact_records.specs.Layout as record-place
 use Rattle.contact_records.specs.Recorded.{pairAt}
 use Rattle.contact_graph.specs.Calls.{removedWords}
@@ -16,9 +16,9 @@ use Rattle.contact_range.specs.Checked.{Checked}
 use Rattle.contact_range.specs.Range as range
 use Rattle.contact_range.specs.Recorded.{contactAt, graphOf}
 use Rattle.status_pass.specs.Listed.{EventsWritten, ChangesWritten}
-use Rattle.status_pass.specs.Said.{eventSize, changeSize}
+use Rattle.status_pass.specs.EventsAndChanges.{eventSize, changeSize}
 use Rattle.status_pass.specs.Settled.{settledWords}
-use Rattle.status_pass.specs.declared.visit.Said.{Said}
+use Rattle.status_pass.specs.declared.visit.WrittenCounts.{WrittenCounts}
 
 -- the contact's record written anew
 unfoldable pub settledGraph : Verdict → ℕ → List ℕ → List ℕ
@@ -31,7 +31,7 @@ visitedGraph starts id g = settledGraph starts id g
 visitedGraph stops id g = settledGraph stops id g
 visitedGraph generates id g = settledGraph generates id g
 visitedGraph recounts id g = settledGraph recounts id g
-visitedGraph stands id g = settledGraph stands id g
+visitedGraph persists id g = settledGraph persists id g
 
 -- what the pass has so far: the graph in words
 pub record Passing : Type 0 where
@@ -51,7 +51,7 @@ unfoldable pub visitWords : Passing → ℕ → Passing
 visitWords s id =
     let p = visitedPair (s .graph) id in
     let v = verdict p in
-    record { graph = visitedGraph v id (s .graph); events = s .events ++ hear v p; changes = s .changes ++ say v p }
+    record { graph = visitedGraph v id (s .graph); events = s .events ++ eventsFor v p; changes = s .changes ++ changesFor v p }
 
 unfoldable pub passWords : Passing → List ℕ → Passing
 passWords s [] = s
@@ -76,10 +76,10 @@ pub record VisitReady (g es cs : List ℕ) (id n m : ℕ) : Type 0 where
   pub changeRoom : m * changeSize + changeSize ≤ length cs
 
 -- The promise of `visit`.
-pub record VisitDone (g es cs : List ℕ) (id n m : ℕ) (g′ es′ cs′ : List ℕ) (r : Said) : Type 0 where
+pub record VisitDone (g es cs : List ℕ) (id n m : ℕ) (g′ es′ cs′ : List ℕ) (r : WrittenCounts) : Type 0 where
   pub graph : g′ ≡ visitedGraph (verdict (visitedPair g id)) id g
-  pub events : EventsWritten es n (hear (verdict (visitedPair g id)) (visitedPair g id)) es′ (r .events)
-  pub changes : ChangesWritten cs m (say (verdict (visitedPair g id)) (visitedPair g id)) cs′ (r .changes)
+  pub events : EventsWritten es n (eventsFor (verdict (visitedPair g id)) (visitedPair g id)) es′ (r .events)
+  pub changes : ChangesWritten cs m (changesFor (verdict (visitedPair g id)) (visitedPair g id)) cs′ (r .changes)
 
 -- the list's contacts, and room for an event and a change of each
 pub record RowsReady (g es cs ids : List ℕ) : Type 0 where
@@ -88,11 +88,11 @@ pub record RowsReady (g es cs ids : List ℕ) : Type 0 where
   pub changeRoom : length ids * changeSize ≤ length cs
 
 -- The rows that the pass leaves, from what it has: the graph's words, and the events and changes from the start of their rows on.
-pub record Left (s : Passing) (es cs g′ es′ cs′ : List ℕ) (r : Said) : Type 0 where
+pub record Left (s : Passing) (es cs g′ es′ cs′ : List ℕ) (r : WrittenCounts) : Type 0 where
   pub graph : g′ ≡ s .graph
   pub events : EventsWritten es 0 (s .events) es′ (r .events)
   pub changes : ChangesWritten cs 0 (s .changes) cs′ (r .changes)
 
 -- The promise of `pass`.
-abbrev pub PassDone : List ℕ → List ℕ → List ℕ → List ℕ → List ℕ → List ℕ → List ℕ → Said → Type 0
+abbrev pub PassDone : List ℕ → List ℕ → List ℕ → List ℕ → List ℕ → List ℕ → List ℕ → WrittenCounts → Type 0
 PassDone g es cs ids g′ es′ cs′ r = Left (passWords (begun g) ids) es cs g′ es′ cs′ r

@@ -20,7 +20,7 @@ use Rattle.rules.specs.Records.{Pair, Names}
 use Rattle.rules.specs.Numbers.{any}
 use Rattle.rule_laws.specs.NumberLaws.{any-same}
 use Rattle.rules.specs.Status.{Event, Change, Pass, eventIf, stopIf, countOf, written, visitAt, visitFound, visit, visitAll}
-use Rattle.rule_laws.specs.Visit.{Verdict, vanishes, starts, stops, generates, recounts, stands, verdict, next, say, hear, visitAs, visitAt-as}
+use Rattle.rule_laws.specs.Visit.{Verdict, vanishes, starts, stops, generates, recounts, persists, verdict, next, changesFor, eventsFor, visitAs, visitAt-as}
 use Rattle.words.specs.Words.{wordAt}
 use Rattle.manifold_records.specs.Counts.{Counted}
 use Rattle.manifold_records.specs.Lists.{map-upto-same, getD-map-upto, length-map-upto}
@@ -38,7 +38,7 @@ use Rattle.contact_range.specs.Checked.{Checked}
 use Rattle.contact_graph.specs.Effects.{contact-after, contact-room, same-or-not, word-apart}
 use Rattle.contact_range.specs.FitsLaws.{fits-same}
 use Rattle.contact_graph.specs.AddedGraph.{right-kept, listedPair, listed-counted}
-use Rattle.contact_graph.specs.RemovedGraph.{here, named, removed-effect, removed-in-range, removed-position, removed-at, getD-any}
+use Rattle.contact_graph.specs.RemovedGraph.{here, named, removed-effect, removed-in-range, removed-pairIndex, removed-at, getD-any}
 use Rattle.status_pass.specs.Settled.{settledWords}
 use Rattle.status_pass.specs.SettleLaws.{settled-length, before-marks, settled-word, settled-pair, settled-fitting}
 use Rattle.status_pass.specs.Pass.{settledGraph, visitedGraph, Passing, visitedPair, visitWords, passWords, plainPass, PassReady}
@@ -229,7 +229,7 @@ visited-by P id g a b starts = b starts
 visited-by P id g a b stops = b stops
 visited-by P id g a b generates = b generates
 visited-by P id g a b recounts = b recounts
-visited-by P id g a b stands = b stands
+visited-by P id g a b persists = b persists
 
 pub visited-checked : (v : Verdict) {g : List ℕ} (id : ℕ) → Checked g → range.stands g id ≡ true → Checked (visitedGraph v id g)
 visited-checked v {g} id c st = visited-by Checked id g (removed-in-range id c st) (λ u. settled-in-range u id c st) v
@@ -316,7 +316,7 @@ module _ {g : List ℕ} (id : ℕ) (c : Checked g) (st : range.stands g id ≡ t
 abbrev visitedAs : Passing → ℕ → Verdict → Passing
 visitedAs s id v =
     let p = visitedPair (s .graph) id in
-    record { graph = visitedGraph v id (s .graph); events = s .events ++ hear v p; changes = s .changes ++ say v p }
+    record { graph = visitedGraph v id (s .graph); events = s .events ++ eventsFor v p; changes = s .changes ++ changesFor v p }
 
 module _ (s : Passing) (id : ℕ) (c : Checked (s .graph)) (st : range.stands (s .graph) id ≡ true) where
   abbrev own : Pair
@@ -326,23 +326,23 @@ module _ (s : Passing) (id : ℕ) (c : Checked (s .graph)) (st : range.stands (s
   at = placeOf (s .graph) id
 
   as-written : (v : Verdict) {q : Pair} → next v own ≡ some q
-      → written (plainPass s) at q (hear v own) (say v own)
-      ≡ record { graph = graphOf (settledGraph v id (s .graph)); events = s .events ++ hear v own; changes = s .changes ++ say v own }
-  as-written v e = λ i. record { graph = sym (settled-graph id c st v e) i; events = s .events ++ hear v own; changes = s .changes ++ say v own }
+      → written (plainPass s) at q (eventsFor v own) (changesFor v own)
+      ≡ record { graph = graphOf (settledGraph v id (s .graph)); events = s .events ++ eventsFor v own; changes = s .changes ++ changesFor v own }
+  as-written v e = λ i. record { graph = sym (settled-graph id c st v e) i; events = s .events ++ eventsFor v own; changes = s .changes ++ changesFor v own }
 
   visit-as : (v : Verdict) → visitAs (plainPass s) at own v ≡ plainPass (visitedAs s id v)
   unfolding visitedGraph settledGraph settledWords
   visit-as vanishes =
       λ i. record {
         graph = (ap (removedAt (graphOf (s .graph)) at) (sym (own-listed id c st)) ∙ sym (removed-at id c st)) i;
-        events = s .events ++ hear vanishes own;
-        changes = s .changes ++ say vanishes own;
+        events = s .events ++ eventsFor vanishes own;
+        changes = s .changes ++ changesFor vanishes own;
       }
   visit-as starts = as-written starts refl
   visit-as stops = as-written stops refl
   visit-as generates = as-written generates refl
   visit-as recounts = as-written recounts refl
-  visit-as stands =
+  visit-as persists =
       λ i. record {
         graph = graphOf (sym (put-part (s .graph) (contactAt (s .graph) id) record-place.contactSize) i);
         events = sym (append-nil (s .events)) i;
@@ -355,7 +355,7 @@ module _ (s : Passing) (id : ℕ) (c : Checked (s .graph)) (st : range.stands (s
       let g = s .graph in
       let ps = map (listedPair g) (upto (listedCount g)) in
       let d = listedPair g at in
-      ap (λ (o : Option ℕ). visitFound (plainPass s) o ps) (removed-position id c st)
+      ap (λ (o : Option ℕ). visitFound (plainPass s) o ps) (removed-pairIndex id c st)
       ∙ found-at (plainPass s) at ps d (omega (arith, here id c st, length-map-upto (listedPair g) (listedCount g)))
       ∙ ap (visitAt (plainPass s) at) (getD-map-upto (listedPair g) (listedCount g) at d (here id c st) ∙ own-listed id c st)
 
@@ -425,13 +425,13 @@ event-few : (b : Bool) (e : Event) → length (eventIf b e) ≤ 1
 event-few true e = omega arith
 event-few false e = omega arith
 
-hear-few : (v : Verdict) (p : Pair) → length (hear v p) ≤ 1
-hear-few vanishes p = event-few (p .edge .touching && p .edge .contactEvents) _
-hear-few starts p = event-few (p .edge .contactEvents) _
-hear-few stops p = event-few (p .edge .contactEvents) _
-hear-few generates p = omega arith
-hear-few recounts p = omega arith
-hear-few stands p = omega arith
+eventsFor-few : (v : Verdict) (p : Pair) → length (eventsFor v p) ≤ 1
+eventsFor-few vanishes p = event-few (p .edge .touching && p .edge .contactEvents) _
+eventsFor-few starts p = event-few (p .edge .contactEvents) _
+eventsFor-few stops p = event-few (p .edge .contactEvents) _
+eventsFor-few generates p = omega arith
+eventsFor-few recounts p = omega arith
+eventsFor-few persists p = omega arith
 
 -- the same names with other bodies, to go by what those are
 abbrev bodied : Names → Option ℕ → Option ℕ → Names
@@ -458,13 +458,13 @@ start-few : (b : Bool) (c : Change) → length (cond b (c ∷ []) []) ≤ 1
 start-few true c = omega arith
 start-few false c = omega arith
 
-say-few : (v : Verdict) (p : Pair) → length (say v p) ≤ 1
-say-few vanishes p = stop-few (p .flags .generateConstraints) (p .names)
-say-few starts p = start-few (p .flags .generateConstraints) _
-say-few stops p = stop-few (p .flags .generateConstraints) (p .names)
-say-few generates p = omega arith
-say-few recounts p = count-few (p .names) (p .countChange)
-say-few stands p = omega arith
+changesFor-few : (v : Verdict) (p : Pair) → length (changesFor v p) ≤ 1
+changesFor-few vanishes p = stop-few (p .flags .generateConstraints) (p .names)
+changesFor-few starts p = start-few (p .flags .generateConstraints) _
+changesFor-few stops p = stop-few (p .flags .generateConstraints) (p .names)
+changesFor-few generates p = omega arith
+changesFor-few recounts p = count-few (p .names) (p .countChange)
+changesFor-few persists p = omega arith
 
 pub pass-events : (s : Passing) (ids : List ℕ) → length (passWords s ids .events) ≤ length (s .events) + length ids
 unfolding passWords visitWords
@@ -472,7 +472,7 @@ pass-events s [] = omega arith
 pass-events s (id ∷ ids) =
     let p = visitedPair (s .graph) id in
     let r = pass-events (visitWords s id) ids in
-    omega (arith, r, length-append (s .events) (hear (verdict p) p), hear-few (verdict p) p)
+    omega (arith, r, length-append (s .events) (eventsFor (verdict p) p), eventsFor-few (verdict p) p)
 
 pub pass-changes : (s : Passing) (ids : List ℕ) → length (passWords s ids .changes) ≤ length (s .changes) + length ids
 unfolding passWords visitWords
@@ -480,4 +480,4 @@ pass-changes s [] = omega arith
 pass-changes s (id ∷ ids) =
     let p = visitedPair (s .graph) id in
     let r = pass-changes (visitWords s id) ids in
-    omega (arith, r, length-append (s .changes) (say (verdict p) p), say-few (verdict p) p)
+    omega (arith, r, length-append (s .changes) (changesFor (verdict p) p), changesFor-few (verdict p) p)

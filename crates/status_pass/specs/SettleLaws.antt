@@ -14,8 +14,8 @@ use Rattle.rows.specs.Rows.{put}
 use Rattle.rows.specs.Slots.{upto}
 use Rattle.rows.specs.Laws.{length-put, getD-put, getD-put-apart}
 use Rattle.rules.specs.Limits.{bodies}
-use Rattle.rules.specs.Status.{withMarks, marks}
-use Rattle.rule_laws.specs.Visit.{Verdict, vanishes, starts, stops, generates, recounts, stands, next}
+use Rattle.rules.specs.Status.{withStatus, withStatusMarks}
+use Rattle.rule_laws.specs.Visit.{Verdict, vanishes, starts, stops, generates, recounts, persists, next}
 use Rattle.words.specs.Words.{wordAt}
 use Rattle.manifold_records.specs.Lists.{map-upto-same}
 use Rattle.manifold_records.specs.Recorded.{pointsAt, manifoldAt, manifoldsAt}
@@ -47,7 +47,7 @@ settled-length starts w =
 settled-length stops w = length-one (put w place.edgePlace (0 ∷ [])) stoppedPlace 0 ∙ length-one w place.edgePlace 0
 settled-length generates w = length-one w generatingPlace 0
 settled-length recounts w = length-one w place.countChangePlace 0
-settled-length stands w = refl
+settled-length persists w = refl
 
 -- ---- the words that stay
 pub record Untouched (o : ℕ) : Type 0 where
@@ -81,7 +81,7 @@ settled-word starts w o u =
 settled-word stops w o u = put-other (put w place.edgePlace (0 ∷ [])) stoppedPlace 0 o (u .ceased) ∙ put-other w place.edgePlace 0 o (u .edge)
 settled-word generates w o u = put-other w generatingPlace 0 o (u .generating)
 settled-word recounts w o u = put-other w place.countChangePlace 0 o (u .change)
-settled-word stands w o u = refl
+settled-word persists w o u = refl
 
 -- ---- the pair
 -- points, manifolds and their lists where all further words are the same, whatever the counts
@@ -117,7 +117,7 @@ module _ (w h : List ℕ) (same : (o : ℕ) → Untouched o → wordAt h o ≡ w
   at : (o : ℕ) → T (untouched o) → wordAt h o ≡ wordAt w o
   at o t = same o (by-test o t)
 
-  flags-marked : {a b c : ℕ} → wordAt h 11 ≡ a → wordAt h 12 ≡ b → wordAt h 14 ≡ c → flagsAt h 9 ≡ marks (flagsAt w 9) (eqb a 1) (eqb b 1) (eqb c 1)
+  flags-marked : {a b c : ℕ} → wordAt h 11 ≡ a → wordAt h 12 ≡ b → wordAt h 14 ≡ c → flagsAt h 9 ≡ withStatusMarks (flagsAt w 9) (eqb a 1) (eqb b 1) (eqb c 1)
   unfolding flagsAt
   flags-marked p q r =
       λ i. record {
@@ -133,7 +133,7 @@ module _ (w h : List ℕ) (same : (o : ℕ) → Untouched o → wordAt h o ≡ w
       }
 
   pair-marked : (id : ℕ) {t a b c d : ℕ} → wordAt h 7 ≡ t → wordAt h 11 ≡ a → wordAt h 12 ≡ b → wordAt h 14 ≡ c → wordAt h 18 ≡ d
-      → pairAt h 0 id ≡ withMarks (pairAt w 0 id) (eqb t 1) (marks (flagsAt w 9) (eqb a 1) (eqb b 1) (eqb c 1)) (intOf d)
+      → pairAt h 0 id ≡ withStatus (pairAt w 0 id) (eqb t 1) (withStatusMarks (flagsAt w 9) (eqb a 1) (eqb b 1) (eqb c 1)) (intOf d)
   unfolding pairAt edgeAt
   pair-marked id e p q r n =
       let named : Same w 0 h 0 6 = record { each = λ o l. same (0 + o) (before-marks (0 + o) (omega arith)) } in
@@ -186,7 +186,7 @@ settled-pair recounts w id l n =
     ap some
     (sym (pair-marked w (put w 18 (0 ∷ [])) (settled-word recounts w) id
     (past 7 (omega arith)) (past 11 (omega arith)) (past 12 (omega arith)) (past 14 (omega arith)) (put-own w 18 0 (omega arith))))
-settled-pair stands w id l n = refl
+settled-pair persists w id l n = refl
 
 -- ---- the range
 -- a mark stays 0 or 1
@@ -212,7 +212,7 @@ settled-mark stops w o l m =
     put-mark a 12 0 o (omega arith) (omega arith) (put-mark w 7 0 o (omega arith) (omega arith) m)
 settled-mark generates w o l m = put-mark w 14 0 o (omega arith) (omega arith) m
 settled-mark recounts w o l m = put-mark w 18 0 o (omega arith) (omega arith) m
-settled-mark stands w o l m = m
+settled-mark persists w o l m = m
 
 module _ (v : Verdict) (w : List ℕ) (l : length w ≡ place.contactSize) (f : Fitting w 0) where
   abbrev h : List ℕ

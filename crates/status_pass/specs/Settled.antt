@@ -2,7 +2,7 @@
 use Prim.Native.Nat.{ℕ}
 use mathlib.Core.List.{List, [], _∷_}
 use Rattle.rows.specs.Rows.{put}
-use Rattle.rule_laws.specs.Visit.{Verdict, vanishes, starts, stops, generates, recounts, stands}
+use Rattle.rule_laws.specs.Visit.{Verdict, vanishes, starts, stops, generates, recounts, persists}
 use Rattle.contact_records.specs.Layout as place
 
 -- the edge's TOUCHING, and the pair's STARTED_TOUCHING, STOPPED_TOUCHING and STARTED_GENERATING_CONSTRAINTS
@@ -27,4 +27,4 @@ settledWords starts w = startedWords w
 settledWords stops w = stoppedWords w
 settledWords generates w = put w generatingPlace (0 ∷ [])
 settledWords recounts w = put w place.countChangePlace (0 ∷ [])
-settledWords stands w = w
+settledWords persists w = w

@@ -5,7 +5,7 @@ use mathlib.Core.List.{List}
 use Rattle.rule_laws.specs.Visit as rules
 use Rattle.contact_records.specs.Recorded.{pairAt}
 use Rattle.status_pass.specs.declared.verdict.Verdict.{Verdict}
-use Rattle.status_pass.specs.declared.verdict.Verdict.the-variants.{Vanishes, Starts, Stops, Generates, Recounts, Stands}
+use Rattle.status_pass.specs.declared.verdict.Verdict.the-variants.{Vanishes, Starts, Stops, Generates, Recounts, Persists}
 
 abbrev pub plainVerdict : Verdict → rules.Verdict
 plainVerdict Vanishes = rules.vanishes
@@ -13,7 +13,7 @@ plainVerdict Starts = rules.starts
 plainVerdict Stops = rules.stops
 plainVerdict Generates = rules.generates
 plainVerdict Recounts = rules.recounts
-plainVerdict Stands = rules.stands
+plainVerdict Persists = rules.persists
 
 -- The promise of `verdict_of`, under whatever id.
 pub record VerdictIs (w : List ℕ) (r : Verdict) : Type 0 where

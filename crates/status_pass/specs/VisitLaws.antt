@@ -14,7 +14,7 @@ use Rattle.rows.specs.EachLaws.{each-append, length-each}
 use Rattle.rules.specs.Records.{Pair, Names}
 use Rattle.rules.specs.Status.{Event, started, ended, Change, start, stop, count}
 use Rattle.rule_laws.specs.Visit as rules
-use Rattle.rule_laws.specs.Visit.{verdict, say, hear}
+use Rattle.rule_laws.specs.Visit.{verdict, changesFor, eventsFor}
 use Rattle.contact_records.specs.Apart.{pair-part}
 use Rattle.contact_records.specs.Layout as record-place
 use Rattle.contact_records.specs.Recorded.{pairAt}
@@ -24,7 +24,7 @@ use Rattle.contact_range.specs.Range.{stands}
 use Rattle.contact_range.specs.RangeLaws.{standing-fits, standing-below}
 use Rattle.contact_range.specs.Recorded.{capacityOf, contactAt}
 use Rattle.contact_graph.specs.Effects.{contact-room}
-use Rattle.status_pass.specs.Said.{eventWords, changeWords}
+use Rattle.status_pass.specs.EventsAndChanges.{eventWords, changeWords}
 use Rattle.status_pass.specs.Settled.{settledWords}
 use Rattle.status_pass.specs.Listed.{Appended, EventsWritten, ChangesWritten}
 use Rattle.status_pass.specs.Pass.{settledGraph, visitedGraph, Passing, begun, visitedPair, visitWords, passWords, VisitReady, VisitDone, RowsReady, Left}
@@ -32,7 +32,7 @@ use Rattle.status_pass.specs.PassLaws.{pass-next, pass-at, pass-events, 
 use Rattle.status_pass.specs.SettleLaws.{settled-length}
 use Rattle.status_pass.specs.Verdicts.{plainVerdict, VerdictIs}
 use Rattle.status_pass.specs.declared.verdict.Verdict.{Verdict}
-use Rattle.status_pass.specs.declared.visit.Said.{Said}
+use Rattle.status_pass.specs.declared.visit.WrittenCounts.{WrittenCounts}
 
 -- ---- the contact's own record, as it is lent on
 module _ {g : List ℕ} (id : ℕ) (c : Checked g) (s : stands g id ≡ true) {at n : ℕ} (p : at ≡ contactAt g id) (q : n ≡ record-place.contactSize) where
@@ -58,15 +58,15 @@ module _ {g : List ℕ} (id : ℕ) (c : Checked g) (s : stands g id ≡ true) {a
       ∙ (λ i. put g (p i) ((e ∙ ap (settledWords v) own-part) i))
 
 -- ---- one visit
-module _ {g es cs g′ es′ cs′ w : List ℕ} {id : ℕ} {v : Verdict} (n m : ℕ) (r : Said) where
-  pub visit-done : pairAt w 0 id ≡ visitedPair g id → VerdictIs w v → EventsWritten es n (hear (plainVerdict v) (pairAt w 0 id)) es′ (r .events)
-      → ChangesWritten cs m (say (plainVerdict v) (pairAt w 0 id)) cs′ (r .changes) → g′ ≡ visitedGraph (plainVerdict v) id g → VisitDone g es cs id n m g′ es′ cs′ r
+module _ {g es cs g′ es′ cs′ w : List ℕ} {id : ℕ} {v : Verdict} (n m : ℕ) (r : WrittenCounts) where
+  pub visit-done : pairAt w 0 id ≡ visitedPair g id → VerdictIs w v → EventsWritten es n (eventsFor (plainVerdict v) (pairAt w 0 id)) es′ (r .events)
+      → ChangesWritten cs m (changesFor (plainVerdict v) (pairAt w 0 id)) cs′ (r .changes) → g′ ≡ visitedGraph (plainVerdict v) id g → VisitDone g es cs id n m g′ es′ cs′ r
   visit-done e is x y z =
       let f : plainVerdict v ≡ verdict (visitedPair g id) = is .under id ∙ ap verdict e in
       record {
         graph = z ∙ ap (λ (u : rules.Verdict). visitedGraph u id g) f;
-        events = subst₂ (λ (u : rules.Verdict) (p : Pair). EventsWritten es n (hear u p) es′ (r .events)) f e x;
-        changes = subst₂ (λ (u : rules.Verdict) (p : Pair). ChangesWritten cs m (say u p) cs′ (r .changes)) f e y;
+        events = subst₂ (λ (u : rules.Verdict) (p : Pair). EventsWritten es n (eventsFor u p) es′ (r .events)) f e x;
+        changes = subst₂ (λ (u : rules.Verdict) (p : Pair). ChangesWritten cs m (changesFor u p) cs′ (r .changes)) f e y;
       }
 
 -- ---- lists that grow
@@ -110,11 +110,11 @@ module _ (g es cs : List ℕ) where
   unfolding put
   left-none = record { graph = refl; events = record { stored = refl; count = refl }; changes = record { stored = refl; count = refl } }
 
-  pub left-next : (s : Passing) {h es′ cs′ h′ es″ cs″ : List ℕ} (id : ℕ) {said r : Said} → Left s es cs h es′ cs′ said
-      → VisitDone h es′ cs′ id (said .events) (said .changes) h′ es″ cs″ r → Left (visitWords s id) es cs h′ es″ cs″ r
+  pub left-next : (s : Passing) {h es′ cs′ h′ es″ cs″ : List ℕ} (id : ℕ) {counts r : WrittenCounts} → Left s es cs h es′ cs′ counts
+      → VisitDone h es′ cs′ id (counts .events) (counts .changes) h′ es″ cs″ r → Left (visitWords s id) es cs h′ es″ cs″ r
   unfolding visitWords
-  left-next s {h} {es′} {cs′} {h′} {es″} {cs″} id {said} {r} l d =
-      let w = subst (λ (x : List ℕ). VisitDone x es′ cs′ id (said .events) (said .changes) h′ es″ cs″ r) (l .graph) d in
+  left-next s {h} {es′} {cs′} {h′} {es″} {cs″} id {counts} {r} l d =
+      let w = subst (λ (x : List ℕ). VisitDone x es′ cs′ id (counts .events) (counts .changes) h′ es″ cs″ r) (l .graph) d in
       record {
         graph = w .graph;
         events = appended-next eventWords 8 event-size (l .events) (w .events);
@@ -126,9 +126,9 @@ module _ (g es cs : List ℕ) where
     abbrev pub after : ℕ → Passing
     after k = passWords (begun g) (take k ids)
 
-    pub visit-ready : (k : ℕ) {h es′ cs′ : List ℕ} {said : Said} → k < length ids → Left (after k) es cs h es′ cs′ said
-        → VisitReady h es′ cs′ (getD ids k 0) (said .events) (said .changes)
-    visit-ready k {h} {es′} {cs′} {said} l a =
+    pub visit-ready : (k : ℕ) {h es′ cs′ : List ℕ} {counts : WrittenCounts} → k < length ids → Left (after k) es cs h es′ cs′ counts
+        → VisitReady h es′ cs′ (getD ids k 0) (counts .events) (counts .changes)
+    visit-ready k {h} {es′} {cs′} {counts} l a =
         let at = pass-at (begun g) ids (ready .ready) k l in
         let few = pass-events (begun g) (take k ids) in
         let less = pass-changes (begun g) (take k ids) in
@@ -142,9 +142,9 @@ module _ (g es cs : List ℕ) where
           changeRoom = let m = a .changes .count in let z = ready .changeRoom in omega arith;
         }
 
-    pub visit-left : (k : ℕ) {h es′ cs′ h′ es″ cs″ : List ℕ} {said r : Said} → k < length ids → Left (after k) es cs h es′ cs′ said
-        → VisitDone h es′ cs′ (getD ids k 0) (said .events) (said .changes) h′ es″ cs″ r → Left (after (k + 1)) es cs h′ es″ cs″ r
-    visit-left k {h} {es′} {cs′} {h′} {es″} {cs″} {said} {r} l a d =
+    pub visit-left : (k : ℕ) {h es′ cs′ h′ es″ cs″ : List ℕ} {counts r : WrittenCounts} → k < length ids → Left (after k) es cs h es′ cs′ counts
+        → VisitDone h es′ cs′ (getD ids k 0) (counts .events) (counts .changes) h′ es″ cs″ r → Left (after (k + 1)) es cs h′ es″ cs″ r
+    visit-left k {h} {es′} {cs′} {h′} {es″} {cs″} {counts} {r} l a d =
         subst (λ (s : Passing). Left s es cs h′ es″ cs″ r) (sym (pass-next (begun g) ids k l)) (left-next (after k) (getD ids k 0) a d)
 
   -- the same over the first n of a row
@@ -152,18 +152,18 @@ module _ (g es cs : List ℕ) where
     abbrev pub turns : ℕ → Passing
     turns k = after (take n row) ready k
 
-    pub turn-ready : (k id : ℕ) {h es′ cs′ : List ℕ} {said : Said} → k < n → id ≡ getD row k 0 → Left (turns k) es cs h es′ cs′ said
-        → VisitReady h es′ cs′ id (said .events) (said .changes)
-    turn-ready k id {h} {es′} {cs′} {said} l e a =
-        subst (λ (i : ℕ). VisitReady h es′ cs′ i (said .events) (said .changes)) (getD-take n row k 0 l ∙ sym e)
+    pub turn-ready : (k id : ℕ) {h es′ cs′ : List ℕ} {counts : WrittenCounts} → k < n → id ≡ getD row k 0 → Left (turns k) es cs h es′ cs′ counts
+        → VisitReady h es′ cs′ id (counts .events) (counts .changes)
+    turn-ready k id {h} {es′} {cs′} {counts} l e a =
+        subst (λ (i : ℕ). VisitReady h es′ cs′ i (counts .events) (counts .changes)) (getD-take n row k 0 l ∙ sym e)
         (visit-ready (take n row) ready k (let z = length-take-le n row fits in omega arith) a)
 
-    pub turn-left : (k id : ℕ) {h es′ cs′ h′ es″ cs″ : List ℕ} {said r : Said} → k < n → id ≡ getD row k 0 → Left (turns k) es cs h es′ cs′ said
-        → VisitDone h es′ cs′ id (said .events) (said .changes) h′ es″ cs″ r → Left (turns (k + 1)) es cs h′ es″ cs″ r
-    turn-left k id {h} {es′} {cs′} {h′} {es″} {cs″} {said} {r} l e a d =
+    pub turn-left : (k id : ℕ) {h es′ cs′ h′ es″ cs″ : List ℕ} {counts r : WrittenCounts} → k < n → id ≡ getD row k 0 → Left (turns k) es cs h es′ cs′ counts
+        → VisitDone h es′ cs′ id (counts .events) (counts .changes) h′ es″ cs″ r → Left (turns (k + 1)) es cs h′ es″ cs″ r
+    turn-left k id {h} {es′} {cs′} {h′} {es″} {cs″} {counts} {r} l e a d =
         visit-left (take n row) ready k (let z = length-take-le n row fits in omega arith) a
-        (subst (λ (i : ℕ). VisitDone h es′ cs′ i (said .events) (said .changes) h′ es″ cs″ r) (e ∙ sym (getD-take n row k 0 l)) d)
+        (subst (λ (i : ℕ). VisitDone h es′ cs′ i (counts .events) (counts .changes) h′ es″ cs″ r) (e ∙ sym (getD-take n row k 0 l)) d)
 
-    pub turns-done : (k : ℕ) {h es′ cs′ : List ℕ} {said : Said} → k ≡ n → Left (turns k) es cs h es′ cs′ said → Left (passWords (begun g) (take n row)) es cs h es′ cs′ said
-    turns-done k {h} {es′} {cs′} {said} e a =
-        subst (λ (ids : List ℕ). Left (passWords (begun g) ids) es cs h es′ cs′ said) (take-all k (take n row) (let z = length-take-le n row fits in omega arith)) a
+    pub turns-done : (k : ℕ) {h es′ cs′ : List ℕ} {counts : WrittenCounts} → k ≡ n → Left (turns k) es cs h es′ cs′ counts → Left (passWords (begun g) (take n row)) es cs h es′ cs′ counts
+    turns-done k {h} {es′} {cs′} {counts} e a =
+        subst (λ (ids : List ℕ). Left (passWords (begun g) ids) es cs h es′ cs′ counts) (take-all k (take n row) (let z = length-take-le n row fits in omega arith)) a

@@ -2,7 +2,7 @@
 ghost use mathlib.Core.Path.{_≡_};
 ghost use Prim.Native.Nat.{_+_, _*_, _≤_};
 ghost use lib.ListN.{length};
-ghost use Rattle.rule_laws.specs.Visit.{say};
+ghost use Rattle.rule_laws.specs.Visit.{changesFor};
 ghost use Rattle.contact_records.specs.Layout.{contactSize};
 ghost use Rattle.contact_records.specs.Recorded.{pairAt};
 ghost use Rattle.status_pass.specs.Verdicts.{plainVerdict};
@@ -39,14 +39,14 @@ fn change_of(words: &[u32], v: Verdict) -> ChangeKind
         Verdict::Stops => change_where(generating & both, ChangeKind::Stop),
         Verdict::Generates => ChangeKind::Start,
         Verdict::Recounts => change_where(both, ChangeKind::Count),
-        Verdict::Stands => ChangeKind::Nothing,
+        Verdict::Persists => ChangeKind::Nothing,
     }
 }
 
 // n changes are written already. Answers how many are then.
 pub fn record_change(changes: &mut [u32], n: usize, words: &[u32], id: u32, v: Verdict) -> usize
     requires { ⌜ (length (now words) ≡ contactSize) × (n * 5 + 5 ≤ length (now changes)) ⌝ }
-    ensures { λ r. ⌜ ChangesWritten (now (changes .entry)) n (say (plainVerdict v) (pairAt (now (words .entry)) 0 id)) (now (changes .exit)) r ⌝ }
+    ensures { λ r. ⌜ ChangesWritten (now (changes .entry)) n (changesFor (plainVerdict v) (pairAt (now (words .entry)) 0 id)) (now (changes .exit)) r ⌝ }
 {
     match change_of(words, v) {
         ChangeKind::Nothing => n,

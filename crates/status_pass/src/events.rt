@@ -4,11 +4,11 @@ ghost use mathlib.Core.Bool.{cond};
 ghost use Prim.Native.Nat.{_+_, _*_, _≤_};
 ghost use lib.ListN.{length};
 ghost use Rattle.words.specs.Words.{wordAt};
-ghost use Rattle.rule_laws.specs.Visit.{hear};
+ghost use Rattle.rule_laws.specs.Visit.{eventsFor};
 ghost use Rattle.contact_records.specs.Layout.{contactSize};
 ghost use Rattle.contact_records.specs.Recorded.{markAt, namesAt, pairAt};
 ghost use Rattle.contact_records.specs.Written.{markWord};
-ghost use Rattle.status_pass.specs.Said.{namedWords};
+ghost use Rattle.status_pass.specs.EventsAndChanges.{namedWords};
 ghost use Rattle.status_pass.specs.Verdicts.{plainVerdict};
 ghost use Rattle.status_pass.specs.Listed.{eventWhere, EventIs, EventsWritten};
 use crate::verdict::Verdict;
@@ -42,7 +42,7 @@ fn event_of(words: &[u32], v: Verdict) -> EventKind
         Verdict::Stops => event_where(events, EventKind::Ended),
         Verdict::Generates => EventKind::Nothing,
         Verdict::Recounts => EventKind::Nothing,
-        Verdict::Stands => EventKind::Nothing,
+        Verdict::Persists => EventKind::Nothing,
     }
 }
 
@@ -84,7 +84,7 @@ fn event_words(words: &[u32], id: u32, kind: u32) -> [u32; 8]
 // n events are written already. Answers how many are then.
 pub fn record_event(events: &mut [u32], n: usize, words: &[u32], id: u32, v: Verdict) -> usize
     requires { ⌜ (length (now words) ≡ contactSize) × (n * 8 + 8 ≤ length (now events)) ⌝ }
-    ensures { λ r. ⌜ EventsWritten (now (events .entry)) n (hear (plainVerdict v) (pairAt (now (words .entry)) 0 id)) (now (events .exit)) r ⌝ }
+    ensures { λ r. ⌜ EventsWritten (now (events .entry)) n (eventsFor (plainVerdict v) (pairAt (now (words .entry)) 0 id)) (now (events .exit)) r ⌝ }
 {
     match event_of(words, v) {
         EventKind::Nothing => n,

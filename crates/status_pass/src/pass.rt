@@ -3,7 +3,7 @@ ghost use mathlib.Core.Path.{_≡_};
 ghost use Prim.Native.Nat.{_≤_};
 ghost use lib.ListN.{length, take};
 ghost use Rattle.status_pass.specs.Pass.{RowsReady, PassDone};
-use crate::visit::Said;
+use crate::visit::WrittenCounts;
 use crate::visit::visit;
 
 // The first n of the ids. Answers how many events and changes are written.
@@ -13,18 +13,18 @@ pub fn pass(
     changes: &mut [u32],
     ids: &[u32],
     n: usize,
-) -> Said
+) -> WrittenCounts
     requires { ⌜ (n ≤ length (now ids)) × RowsReady (now graph) (now events) (now changes) (take n (now ids)) ⌝ }
     ensures { λ r. ⌜ PassDone (now (graph .entry)) (now (events .entry)) (now (changes .entry)) (take n (now (ids .entry))) (now (graph .exit)) (now (events .exit)) (now (changes .exit)) r ⌝ }
 {
-    let mut said = Said {
+    let mut counts = WrittenCounts {
         events: 0,
         changes: 0,
     };
     let mut k = 0;
     while k < n {
-        said = visit(graph, events, changes, ids[k], said);
+        counts = visit(graph, events, changes, ids[k], counts);
         k += 1;
     }
-    said
+    counts
 }

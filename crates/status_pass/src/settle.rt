@@ -35,6 +35,6 @@ pub fn settle(words: &mut [u32], v: Verdict)
         Verdict::Stops => settle_stopped(words),
         Verdict::Generates => store_word(words, 14, 0),
         Verdict::Recounts => store_word(words, 18, 0),
-        Verdict::Stands => {}
+        Verdict::Persists => {}
     }
 }

@@ -15,7 +15,7 @@ pub enum Verdict {
     Generates,
     // Touching and generating, and its number of manifolds changed.
     Recounts,
-    Stands,
+    Persists,
 }
 
 pub fn verdict_of(words: &[u32]) -> Verdict
@@ -39,5 +39,5 @@ pub fn verdict_of(words: &[u32]) -> Verdict
     if f.touching & (f.generate_constraints & (change != 0)) {
         return Verdict::Recounts;
     }
-    Verdict::Stands
+    Verdict::Persists
 }

@@ -15,7 +15,7 @@ use contact_range::layout::CONTACT_SIZE;
 use contact_range::layout::contact_at;
 
 // How many events and changes are written.
-pub struct Said {
+pub struct WrittenCounts {
     pub events: usize,
     pub changes: usize,
 }
@@ -42,7 +42,7 @@ fn leave(graph: &mut [u32], id: u32, v: Verdict)
         Verdict::Stops => settle_own(graph, id, v),
         Verdict::Generates => settle_own(graph, id, v),
         Verdict::Recounts => settle_own(graph, id, v),
-        Verdict::Stands => settle_own(graph, id, v),
+        Verdict::Persists => settle_own(graph, id, v),
     }
 }
 
@@ -51,19 +51,19 @@ pub fn visit(
     events: &mut [u32],
     changes: &mut [u32],
     id: u32,
-    said: Said,
-) -> Said
-    requires { ⌜ VisitReady (now graph) (now events) (now changes) id (said .events) (said .changes) ⌝ }
-    ensures { λ r. ⌜ VisitDone (now (graph .entry)) (now (events .entry)) (now (changes .entry)) id (said .events) (said .changes) (now (graph .exit)) (now (events .exit)) (now (changes .exit)) r ⌝ }
+    counts: WrittenCounts,
+) -> WrittenCounts
+    requires { ⌜ VisitReady (now graph) (now events) (now changes) id (counts .events) (counts .changes) ⌝ }
+    ensures { λ r. ⌜ VisitDone (now (graph .entry)) (now (events .entry)) (now (changes .entry)) id (counts .events) (counts .changes) (now (graph .exit)) (now (events .exit)) (now (changes .exit)) r ⌝ }
 {
     let at = contact_at(graph, id as usize);
     let end = at + CONTACT_SIZE;
     let own = &graph[at..end];
     let v = verdict_of(own);
-    let e = record_event(events, said.events, own, id, v);
-    let c = record_change(changes, said.changes, own, id, v);
+    let e = record_event(events, counts.events, own, id, v);
+    let c = record_change(changes, counts.changes, own, id, v);
     leave(graph, id, v);
-    Said {
+    WrittenCounts {
         events: e,
         changes: c,
     }

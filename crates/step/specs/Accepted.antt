@@ -23,7 +23,7 @@ use Rattle.contact_update.specs.After.{proposalOf}
 use Rattle.contact_update.specs.Contact.{ContactReady}
 use Rattle.shares.specs.Layout.{sharesLength}
 use Rattle.shares.specs.Shares.{sharesFit}
-use Rattle.status_pass.specs.Said.{eventsLength, changesLength}
+use Rattle.status_pass.specs.EventsAndChanges.{eventsLength, changesLength}
 use Rattle.update_pass.specs.Shared.{bitsLength}
 use Rattle.update_pass.specs.UpdatedAll.{AllReady}
 use Rattle.step.specs.Step.{Given, Rows, long, givenLong, rowsLong, lengthsFit, hooksFit, rowsInRange, numbersFit, proposalsFit, stepRefusal}

@@ -10,24 +10,12 @@ use Rattle.contact_range.specs.Range.{rightLength}
 use Rattle.contact_range.specs.RangeLaws.{first-of, rest-of}
 use Rattle.contact_range.specs.Recorded.{capacityOf}
 use Rattle.contact_types.specs.Refusals.{numberOf}
+use Rattle.contact_types.specs.RefusalLaws.{some-number}
 use Rattle.contact_types.specs.declared.refusal.Refusal.{Refusal}
-use Rattle.contact_types.specs.declared.refusal.Refusal.the-variants as refusal
 use Rattle.step.specs.Accepted.{GivenWords, given-words, number-tests}
 use Rattle.step.specs.Step.{Given, Rows, givenLong, rowsLong, lengthsFit, numbersFit, stepRefusal, StepDone, Stepped}
 use Rattle.step.specs.declared.answer.StepReport.{StepReport}
 use Rattle.step.specs.declared.answer.StepAnswer.the-variants as answer
-
--- no refusal has the number 0
-pub some-number : (r : Refusal) → eqb (numberOf r) 0 ≡ false
-some-number refusal.WrongLength = refl
-some-number refusal.OutOfRange = refl
-some-number refusal.SameCollider = refl
-some-number refusal.PairExists = refl
-some-number refusal.GraphFull = refl
-some-number refusal.ProposalTooLarge = refl
-some-number refusal.InvalidShares = refl
-some-number refusal.TooFewPoints = refl
-some-number refusal.NoContact = refl
 
 module _ (x : Given) (g : List ℕ) (l : Rows) where
   pub step-refused : (r : Refusal) → stepRefusal x g l ≡ numberOf r → Stepped x g l g l (answer.Refused r)

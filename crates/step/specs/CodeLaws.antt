@@ -23,8 +23,8 @@ use Rattle.contact_update.specs.UpdateFits.{FitSettings, settings-fit-read}
 use Rattle.shares.specs.Shares.{workersOf, totalOf, entryAt, countsFit, entriesStand, activeOnce, sharesFit}
 use Rattle.status_pass.specs.Pass.{begun, passWords, RowsReady, PassDone, Left}
 use Rattle.status_pass.specs.PassLaws.{pass-events, pass-changes}
-use Rattle.status_pass.specs.Said.{eventWords, changeWords}
-use Rattle.status_pass.specs.declared.visit.Said.{Said}
+use Rattle.status_pass.specs.EventsAndChanges.{eventWords, changeWords}
+use Rattle.status_pass.specs.declared.visit.WrittenCounts.{WrittenCounts}
 use Rattle.update_pass.specs.AllLaws.{length-parts}
 use Rattle.update_pass.specs.BitsLaws.{workers-most, entries-active}
 use Rattle.update_pass.specs.JoinLaws.{join-parts, joined-length}
@@ -111,14 +111,14 @@ module _ {x : Given} {g : List ℕ} {l : Rows} (a : Accepted x g l) where
           (subst (λ (w : List ℕ). RowsReady (updatedGraph x g) (l .events) (l .changes) w) (sym standing-is) (rows-ready a))
 
       -- ---- and what the status pass leaves
-      module _ {g″ es′ cs′ : List ℕ} {said : Said} (d : PassDone g′ (l .events) (l .changes) (take n ids′) g″ es′ cs′ said) where
-        passed : Left (passOf x g) (l .events) (l .changes) g″ es′ cs′ said
+      module _ {g″ es′ cs′ : List ℕ} {counts : WrittenCounts} (d : PassDone g′ (l .events) (l .changes) (take n ids′) g″ es′ cs′ counts) where
+        passed : Left (passOf x g) (l .events) (l .changes) g″ es′ cs′ counts
         unfolding passOf
         passed =
-            subst (λ (w : List ℕ). Left (passWords (begun (updatedGraph x g)) w) (l .events) (l .changes) g″ es′ cs′ said) standing-is
-            (subst (λ (w : List ℕ). Left (passWords (begun w) (take n ids′)) (l .events) (l .changes) g″ es′ cs′ said) (u .graph) d)
+            subst (λ (w : List ℕ). Left (passWords (begun (updatedGraph x g)) w) (l .events) (l .changes) g″ es′ cs′ counts) standing-is
+            (subst (λ (w : List ℕ). Left (passWords (begun w) (take n ids′)) (l .events) (l .changes) g″ es′ cs′ counts) (u .graph) d)
 
-        pub step-done : StepDone x g l g″ (record { bits = bits′; events = es′; changes = cs′; distances = ds′ }) (record { events = said .events; changes = said .changes; recycled = r })
+        pub step-done : StepDone x g l g″ (record { bits = bits′; events = es′; changes = cs′; distances = ds′ }) (record { events = counts .events; changes = counts .changes; recycled = r })
         unfolding rowsOf answerOf
         step-done =
             let p = passed in
@@ -129,9 +129,9 @@ module _ {x : Given} {g : List ℕ} {l : Rows} (a : Accepted x g l) where
             }
 
         -- few enough for a word
-        pub said-few : (said .events ≤ 256) × (said .changes ≤ 256)
+        pub counts-few : (counts .events ≤ 256) × (counts .changes ≤ 256)
         unfolding passOf
-        said-few =
+        counts-few =
             let p = passed in
             let ids = standingIds (madeOf x g) g in
             let e = p .events .count in

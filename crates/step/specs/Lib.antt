@@ -1,4 +1,5 @@
 pub mod Step
+pub mod DeterminedLaws
 pub mod Accepted
 pub mod StepLaws
 pub mod ShareLaws

@@ -24,7 +24,7 @@ use Rattle.contact_update.specs.Order.{graphAfterAll}
 use Rattle.shares.specs.Layout.{mostWorkers, sharesLength}
 use Rattle.shares.specs.Shares.{sharesFit}
 use Rattle.status_pass.specs.Pass.{Passing, begun, passWords}
-use Rattle.status_pass.specs.Said.{eventsLength, eventWords, changesLength, changeWords}
+use Rattle.status_pass.specs.EventsAndChanges.{eventsLength, eventWords, changesLength, changeWords}
 use Rattle.update_pass.specs.Shared.{activeOf, recycledOf, partsOf, standingIds, distancesOf, bitsLength}
 use Rattle.step.specs.declared.answer.StepReport.{StepReport}
 use Rattle.step.specs.declared.answer.StepAnswer.{StepAnswer}

@@ -119,7 +119,7 @@ pub record StepMeans (x : Given) (g : List ℕ) : Type 0 where
   pub events : passOf x g .events ≡ plainStep (inputs x) (graphOf g) .events
   pub changes : passOf x g .changes ≡ plainStep (inputs x) (graphOf g) .changes
   pub recycled : recycledOf (madeOf x g) (activeOf g) ≡ plainStep (inputs x) (graphOf g) .recycled
-  pub distances : distancesOf (madeOf x g) g ≡ map (λ id. floatWord (plainStep (inputs x) (graphOf g) .distance id)) (upto (plainStep (inputs x) (graphOf g) .graph .capacity))
+  pub distances : distancesOf (madeOf x g) g ≡ map (λ id. floatWord (plainStep (inputs x) (graphOf g) .maxContactDistance id)) (upto (plainStep (inputs x) (graphOf g) .graph .capacity))
 
 -- the pass of a plain step
 abbrev plainPassOf : Given → List ℕ → Pass
@@ -161,12 +161,12 @@ module _ {x : Given} {g : List ℕ} {l : Rows} (a : Accepted x g l) where
   unfolding plainStep
   recycled-of-means = sym (recycled-means (settingsOf (x .settings)) (x .colliders) (x .bodies) (x .proposals) g)
 
-  distance-word : (id : ℕ) → cond (stands g id) (floatWord (madeOf x g id .distance)) 0 ≡ floatWord (plainStep (inputs x) (graphOf g) .distance id)
+  distance-word : (id : ℕ) → cond (stands g id) (floatWord (madeOf x g id .maxContactDistance)) 0 ≡ floatWord (plainStep (inputs x) (graphOf g) .maxContactDistance id)
   unfolding plainStep
   distance-word id =
       go (stands g id) ∙ ap (λ (f : Float). floatWord f) (sym (distance-means (settingsOf (x .settings)) (x .colliders) (x .bodies) (x .proposals) g id))
     where
-      go : (t : Bool) → cond t (floatWord (madeOf x g id .distance)) 0 ≡ floatWord (cond t (madeOf x g id .distance) zeroF)
+      go : (t : Bool) → cond t (floatWord (madeOf x g id .maxContactDistance)) 0 ≡ floatWord (cond t (madeOf x g id .maxContactDistance) zeroF)
       go true = refl
       go false = zero-distance
 
@@ -176,11 +176,11 @@ module _ {x : Given} {g : List ℕ} {l : Rows} (a : Accepted x g l) where
       ap (λ (s : Pass). s .graph .capacity) (sym pass-of-means)
       ∙ pass-capacity (begun (updatedGraph x g)) (standingIds (madeOf x g) g) (pass-ready a) ∙ updated-capacity a
 
-  distances-mean : distancesOf (madeOf x g) g ≡ map (λ id. floatWord (plainStep (inputs x) (graphOf g) .distance id)) (upto (plainStep (inputs x) (graphOf g) .graph .capacity))
+  distances-mean : distancesOf (madeOf x g) g ≡ map (λ id. floatWord (plainStep (inputs x) (graphOf g) .maxContactDistance id)) (upto (plainStep (inputs x) (graphOf g) .graph .capacity))
   unfolding distancesOf
   distances-mean =
       map-upto-same _ _ (capacityOf g) (λ id b. distance-word id)
-      ∙ ap (λ (n : ℕ). map (λ id. floatWord (plainStep (inputs x) (graphOf g) .distance id)) (upto n)) (sym capacity-means)
+      ∙ ap (λ (n : ℕ). map (λ id. floatWord (plainStep (inputs x) (graphOf g) .maxContactDistance id)) (upto n)) (sym capacity-means)
 
 pub step-means : (x : Given) (g : List ℕ) (l : Rows) → stepRefusal x g l ≡ 0 → StepMeans x g
 step-means x g l e =

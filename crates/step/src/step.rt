@@ -45,10 +45,10 @@ fn step_accepted(
     );
     let mut ids = [0u32; 256];
     let n = standing(bits, count, &mut ids);
-    let said = pass(graph, events, changes, &ids, n);
+    let counts = pass(graph, events, changes, &ids, n);
     StepReport {
-        events: said.events as u32,
-        changes: said.changes as u32,
+        events: counts.events as u32,
+        changes: counts.changes as u32,
         recycled,
     }
 }

@@ -53,8 +53,8 @@ module _ (u v : ℕ → Updated) where
   unfolding distancesAfter
   distances-agree ds [] e = refl
   distances-agree ds (id ∷ ids) e =
-      distances-agree (put ds id (floatWord (u id .distance) ∷ [])) ids (later id ids e)
-      ∙ ap (λ (x : Updated). distancesAfter v (put ds id (floatWord (x .distance) ∷ [])) ids) (e zero (zero-lt-suc (length ids)))
+      distances-agree (put ds id (floatWord (u id .maxContactDistance) ∷ [])) ids (later id ids e)
+      ∙ ap (λ (x : Updated). distancesAfter v (put ds id (floatWord (x .maxContactDistance) ∷ [])) ids) (e zero (zero-lt-suc (length ids)))
 
   recycled-agree : (ids : List ℕ) → Agree ids → recycledOf u ids ≡ recycledOf v ids
   unfolding recycledOf

@@ -62,7 +62,7 @@ module _ (u : ℕ → Updated) where
   pub distances-append : (ds a b : List ℕ) → distancesAfter u ds (a ++ b) ≡ distancesAfter u (distancesAfter u ds a) b
   unfolding distancesAfter
   distances-append ds [] b = refl
-  distances-append ds (id ∷ a) b = distances-append (put ds id (floatWord (u id .distance) ∷ [])) a b
+  distances-append ds (id ∷ a) b = distances-append (put ds id (floatWord (u id .maxContactDistance) ∷ [])) a b
 
   pub recycled-append : (a b : List ℕ) → recycledOf u (a ++ b) ≡ recycledOf u a + recycledOf u b
   unfolding recycledOf
@@ -74,7 +74,7 @@ module _ (u : ℕ → Updated) where
   unfolding bitsAfter
   bits-next bits ids id = bits-append bits ids (id ∷ [])
 
-  pub distances-next : (ds ids : List ℕ) (id : ℕ) → distancesAfter u ds (ids ++ id ∷ []) ≡ put (distancesAfter u ds ids) id (floatWord (u id .distance) ∷ [])
+  pub distances-next : (ds ids : List ℕ) (id : ℕ) → distancesAfter u ds (ids ++ id ∷ []) ≡ put (distancesAfter u ds ids) id (floatWord (u id .maxContactDistance) ∷ [])
   unfolding distancesAfter
   distances-next ds ids id = distances-append ds ids (id ∷ [])
 
@@ -99,7 +99,7 @@ module _ (u : ℕ → Updated) where
   unfolding distancesAfter
   length-distances-after ds [] = refl
   length-distances-after ds (id ∷ ids) =
-      let ws = floatWord (u id .distance) ∷ [] in
+      let ws = floatWord (u id .maxContactDistance) ∷ [] in
       length-distances-after (put ds id ws) ids ∙ length-put ds id ws
 
   pub recycled-most : (ids : List ℕ) → recycledOf u ids ≤ length ids
@@ -212,7 +212,7 @@ module _ (u : ℕ → Updated) where
 
   -- ---- the distances
   abbrev distanceWord : ℕ → ℕ
-  distanceWord id = floatWord (u id .distance)
+  distanceWord id = floatWord (u id .maxContactDistance)
 
   distance-put : (ds : List ℕ) (id k : ℕ) → id < length ds → getD (put ds id (distanceWord id ∷ [])) k 0 ≡ cond (eqb id k) (distanceWord k) (getD ds k 0)
   distance-put ds id k l = go (eqb id k) refl

@@ -10,7 +10,7 @@ use Rattle.rows.specs.Slots.{upto}
 use Rattle.rules.specs.Inputs.{Settings, Inputs}
 use Rattle.rule_laws.specs.Outcome.{names-kept}
 use Rattle.rules.specs.Records.{Names}
-use Rattle.rules.specs.Status.{bitOf, standingBits, distanceOf, recycledCount}
+use Rattle.rules.specs.Status.{bitOf, standingBits, maxContactDistanceOf, recycledCount}
 use Rattle.rules.specs.Update.{isRecycled, Updated, updated}
 use Rattle.data_structures.specs.BitVec.{numbersWith}
 use Rattle.data_structures.specs.NumberLaws.{numbers-same}
@@ -49,10 +49,10 @@ unfolding bitOf valueOf
 bit-value [] id = refl
 bit-value (u ∷ us) id = ap (cond (eqb (u .pair .names .id) id) (u .bit)) (bit-value us id)
 
-distance-value : (us : List Updated) (id : ℕ) → distanceOf us id ≡ valueOf (λ (u : Updated). u .distance) zeroF us id
-unfolding distanceOf valueOf
+distance-value : (us : List Updated) (id : ℕ) → maxContactDistanceOf us id ≡ valueOf (λ (u : Updated). u .maxContactDistance) zeroF us id
+unfolding maxContactDistanceOf valueOf
 distance-value [] id = refl
-distance-value (u ∷ us) id = ap (cond (eqb (u .pair .names .id) id) (u .distance)) (distance-value us id)
+distance-value (u ∷ us) id = ap (cond (eqb (u .pair .names .id) id) (u .maxContactDistance)) (distance-value us id)
 
 -- the standing bits are the numbers that have one
 standing-numbers : (us : List Updated) (from k : ℕ) → standingBits from k us ≡ numbersWith (λ id. bitOf id us) from k
@@ -116,6 +116,6 @@ module _ (s : Settings) (colliders bodies proposals g : List ℕ) where
   unfolding activeOf
   recycled-means = ap recycledCount updates-by-place ∙ recycled-numbers own at (listedAt g) at-own (upto (listedCount g))
 
-  pub distance-means : (id : ℕ) → distanceOf (map (updated (inputsOf s colliders bodies proposals)) (graphOf g .pairs)) id
-      ≡ cond (stands g id) (updateOf s colliders bodies proposals id g .distance) zeroF
-  distance-means id = distance-value updates id ∙ looked-up (λ (u : Updated). u .distance) zeroF id
+  pub distance-means : (id : ℕ) → maxContactDistanceOf (map (updated (inputsOf s colliders bodies proposals)) (graphOf g .pairs)) id
+      ≡ cond (stands g id) (updateOf s colliders bodies proposals id g .maxContactDistance) zeroF
+  distance-means id = distance-value updates id ∙ looked-up (λ (u : Updated). u .maxContactDistance) zeroF id

@@ -81,7 +81,7 @@ module _ (s : Settings) (colliders bodies proposals shares : List ℕ) {g : List
               c .graph ∙ ap (λ (x : List ℕ). graphAfter s colliders bodies proposals x id) (t .graph) ∙ sym (after-all-next s colliders bodies proposals g (ids k) id)
               ∙ ap (graphAfterAll s colliders bodies proposals g) (sym more);
           bit = c .bit ∙ (λ i. cond (u i .bit) (marked (t .bit i) id) (t .bit i)) ∙ sym (bits-next m bits (ids k) id) ∙ ap (bitsAfter m bits) (sym more);
-          distance = c .distance ∙ (λ i. put (t .distance i) id (floatWord (u i .distance) ∷ [])) ∙ sym (distances-next m ds (ids k) id) ∙ ap (distancesAfter m ds) (sym more);
+          distance = c .distance ∙ (λ i. put (t .distance i) id (floatWord (u i .maxContactDistance) ∷ [])) ∙ sym (distances-next m ds (ids k) id) ∙ ap (distancesAfter m ds) (sym more);
           recycled = (λ i. t .recycled i + cond ((c .recycled ∙ ap (λ (x : Updated). isRecycled (x .way)) u) i) 1 0) ∙ sym (recycled-next m (ids k) id) ∙ ap (recycledOf m) (sym more);
         }
 

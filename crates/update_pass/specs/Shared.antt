@@ -40,7 +40,7 @@ module _ (u : ℕ → Updated) where
   -- distances, each contact's at its id
   unfoldable pub distancesAfter : List ℕ → List ℕ → List ℕ
   distancesAfter ds [] = ds
-  distancesAfter ds (id ∷ ids) = distancesAfter (put ds id (floatWord (u id .distance) ∷ [])) ids
+  distancesAfter ds (id ∷ ids) = distancesAfter (put ds id (floatWord (u id .maxContactDistance) ∷ [])) ids
 
   -- how many of the list were recycled
   unfoldable pub recycledOf : List ℕ → ℕ
@@ -68,7 +68,7 @@ module _ (u : ℕ → Updated) where
 
   -- a distance for each id below the capacity: +0 where no contact stands
   unfoldable pub distancesOf : List ℕ → List ℕ
-  distancesOf g = map (λ id. cond (stands g id) (floatWord (u id .distance)) 0) (upto (capacityOf g))
+  distancesOf g = map (λ id. cond (stands g id) (floatWord (u id .maxContactDistance)) 0) (upto (capacityOf g))
 
 -- bit words of a graph: as many for each worker as hold a bit for each contact
 abbrev pub bitsLength : ℕ → ℕ

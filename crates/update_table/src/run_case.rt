@@ -59,6 +59,6 @@ pub fn run_case(
         ran: true,
         bit: o.bit,
         recycled: o.recycled,
-        distance: o.distance,
+        distance: o.max_contact_distance,
     }
 }

@@ -17,4 +17,4 @@ returns-4 : tie.Need-returns-4
 returns-4 c = search prune-refused
 
 pub sardinerod-prune-spec : {M : Type 1} → statement M
-sardinerod-prune-spec = tie.close (tie.spec returns returns-2 (search needs) (search needs) (search needs) (search needs) (search needs) (search needs) (search needs) (search needs) (search needs) returns-3 returns-4)
+sardinerod-prune-spec = tie.close (tie.spec returns returns-2 (search needs) (search needs) (search needs) (search needs) (search needs) (search needs) (search needs) (search needs) returns-3 returns-4)

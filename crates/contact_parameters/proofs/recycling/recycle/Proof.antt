@@ -31,19 +31,19 @@ returns-2 : tie.Need-returns-2 Inv-recycle μ-recycle
 returns-2 c = recycle-none _ _ _ _ _ (ap cacheOf (sym (c .before .before .before .before .recycle .inv) ∙ c .enum-told .given .1))
 
 returns-3 : tie.Need-returns-3 Inv-recycle μ-recycle
-returns-3 c = recycle-turned _ _ _ _ _ _ (ap cacheOf (sym (c .before .before .before .before .before .before .before .before .recycle .inv) ∙ c .before .before .before .before .cache .given .1)) (sym (ap (λ (x : Float). le x zeroF) (c .before .before .before .before .before .before .before .scaled-recycle .ensures)) ∙ c .before .before .before .before .before .before .if1 .left) (c .before .before .least-turn .ensures) (c .if2 .taken)
+returns-3 c = recycle-turned _ _ _ _ _ _ (ap cacheOf (sym (c .before .before .before .before .before .before .before .before .recycle .inv) ∙ c .before .before .before .before .cache .given .1)) (sym (ap (λ (x : Float). le x zeroF) (c .before .before .before .before .before .before .before .scaled-recycle .ensures)) ∙ c .before .before .before .before .before .before .if1 .left) (c .before .before .least-squared-dot .ensures) (c .if2 .taken)
 
 returns-4 : tie.Need-returns-4 Inv-recycle μ-recycle
-returns-4 c = recycle-far _ _ _ _ _ _ (ap cacheOf (sym (c .before .before .before .before .before .before .before .before .before .before .before .recycle .inv) ∙ c .before .before .before .before .before .before .before .cache .given .1)) (sym (ap (λ (x : Float). le x zeroF) (c .before .before .before .before .before .before .before .before .before .before .scaled-recycle .ensures)) ∙ c .before .before .before .before .before .before .before .before .before .if1 .left) (c .before .before .before .before .before .least-turn .ensures) (c .before .before .before .if2 .left) (c .before .before .tolerance-for .ensures) (c .before .squared-motion .ensures) (c .if3 .taken)
+returns-4 c = recycle-far _ _ _ _ _ _ (ap cacheOf (sym (c .before .before .before .before .before .before .before .before .before .before .before .recycle .inv) ∙ c .before .before .before .before .before .before .before .cache .given .1)) (sym (ap (λ (x : Float). le x zeroF) (c .before .before .before .before .before .before .before .before .before .before .scaled-recycle .ensures)) ∙ c .before .before .before .before .before .before .before .before .before .if1 .left) (c .before .before .before .before .before .least-squared-dot .ensures) (c .before .before .before .if2 .left) (c .before .before .tolerance-for .ensures) (c .before .squared-motion .ensures) (c .if3 .taken)
 
 returns-5 : tie.Need-returns-5 Inv-recycle μ-recycle
 returns-5 c =
-    recycle-swept _ _ _ _ _ _ (ap cacheOf (sym (c .before .before .before .before .before .before .before .before .before .before .before .before .before .before .recycle .inv) ∙ c .before .before .before .before .before .before .before .before .before .before .cache .given .1)) (sym (ap (λ (x : Float). le x zeroF) (c .before .before .before .before .before .before .before .before .before .before .before .before .before .scaled-recycle .ensures)) ∙ c .before .before .before .before .before .before .before .before .before .before .before .before .if1 .left) (c .before .before .before .before .before .before .before .before .least-turn .ensures) (c .before .before .before .before .before .before .if2 .left) (c .before .before .before .before .before .tolerance-for .ensures) (c .before .before .before .before .squared-motion .ensures) (c .before .before .before .if3 .left) (c .before .before .swept-arc .ensures) (c .before .root .ensures)
+    recycle-swept _ _ _ _ _ _ (ap cacheOf (sym (c .before .before .before .before .before .before .before .before .before .before .before .before .before .before .recycle .inv) ∙ c .before .before .before .before .before .before .before .before .before .before .cache .given .1)) (sym (ap (λ (x : Float). le x zeroF) (c .before .before .before .before .before .before .before .before .before .before .before .before .before .scaled-recycle .ensures)) ∙ c .before .before .before .before .before .before .before .before .before .before .before .before .if1 .left) (c .before .before .before .before .before .before .before .before .least-squared-dot .ensures) (c .before .before .before .before .before .before .if2 .left) (c .before .before .before .before .before .tolerance-for .ensures) (c .before .before .before .before .squared-motion .ensures) (c .before .before .before .if3 .left) (c .before .before .swept-arc .ensures) (c .before .root .ensures)
     (c .if4 .taken)
 
 returns-6 : tie.Need-returns-6 Inv-recycle μ-recycle
 returns-6 c =
-    recycle-holds _ _ _ _ _ _ (ap cacheOf (sym (c .before .before .before .before .before .before .before .before .before .before .before .before .before .before .recycle .inv) ∙ c .before .before .before .before .before .before .before .before .before .before .cache .given .1)) (sym (ap (λ (x : Float). le x zeroF) (c .before .before .before .before .before .before .before .before .before .before .before .before .before .scaled-recycle .ensures)) ∙ c .before .before .before .before .before .before .before .before .before .before .before .before .if1 .left) (c .before .before .before .before .before .before .before .before .least-turn .ensures) (c .before .before .before .before .before .before .if2 .left) (c .before .before .before .before .before .tolerance-for .ensures) (c .before .before .before .before .squared-motion .ensures) (c .before .before .before .if3 .left) (c .before .before .swept-arc .ensures) (c .before .root .ensures)
+    recycle-holds _ _ _ _ _ _ (ap cacheOf (sym (c .before .before .before .before .before .before .before .before .before .before .before .before .before .before .recycle .inv) ∙ c .before .before .before .before .before .before .before .before .before .before .cache .given .1)) (sym (ap (λ (x : Float). le x zeroF) (c .before .before .before .before .before .before .before .before .before .before .before .before .before .scaled-recycle .ensures)) ∙ c .before .before .before .before .before .before .before .before .before .before .before .before .if1 .left) (c .before .before .before .before .before .before .before .before .least-squared-dot .ensures) (c .before .before .before .before .before .before .if2 .left) (c .before .before .before .before .before .tolerance-for .ensures) (c .before .before .before .before .squared-motion .ensures) (c .before .before .before .if3 .left) (c .before .before .swept-arc .ensures) (c .before .root .ensures)
     (c .if4 .left)
 
 pub recycle-spec : {M : Type 1} → statement M

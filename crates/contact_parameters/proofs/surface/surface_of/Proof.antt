@@ -13,7 +13,7 @@ returns c =
       friction = (c .before .before .before .before .combine .ensures ∙ (λ j. combine (c .before .before .before .before .before .before .before .before .friction-of .ensures j) (c .before .before .before .before .before .before .before .friction-of2 .ensures j))) i;
       restitution = (c .before .before .before .combine2 .ensures ∙ (λ j. combine (c .before .before .before .before .before .before .restitution-of .ensures j) (c .before .before .before .before .before .restitution-of2 .ensures j))) i;
       margins = c .before .before .margin-of .ensures i ⊕ c .before .margin-of2 .ensures i;
-      distance = c .contact-distance .ensures i;
+      effectiveSpeculative = c .effective-speculative .ensures i;
     }
 
 pub surface-of-spec : {M : Type 1} → statement M

@@ -6,6 +6,7 @@ use borrow.Author.Needs.{needs}
 use borrow.Author.Tests.{eq-eqb, ne-eqb, lt-ltb, le-ltb}
 use Rattle.contact_types.specs.Prune.{pruneAnswer, keeps}
 use Rattle.contact_types.specs.PruneLoad.{kept-loaded}
+use Rattle.contact_types.specs.Pruned.{keptStruct}
 use Rattle.contact_types.proofs.prune.prune.Statement.{statement}
 use Rattle.contact_types.proofs.prune.prune.Tie as tie
 
@@ -28,7 +29,7 @@ returns-4 c =
     record {
       answer =
           rw (eq-eqb _ _ (at .before .before .if1 .left), le-ltb _ _ (at .before .if2 .left), le-ltb _ _ (at .if3 .left))
-          (ap keeps (c .prune-points .ensures .0 ∙ kept-loaded _ _ _ _ (c .before .load-points .ensures)));
+          (ap keeps (c .prune-points .ensures ∙ ap keptStruct (kept-loaded _ _ _ _ (c .before .load-points .ensures))));
     }
 
 pub prune-spec : {M : Type 1} → statement M

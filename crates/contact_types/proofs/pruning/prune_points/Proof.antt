@@ -1,5 +1,7 @@
 -- `contact_types::pruning::prune_points` meets its contract: points 1 and 2 exist, and the rest is what each call ensures. Assumes nothing.
+use mathlib.Core.Path.{refl, ap, _∙_}
 use borrow.Author.Needs.{needs}
+use Rattle.contact_types.specs.Pruned.{keptStruct}
 use Rattle.contact_types.specs.PruneEnd.{first-below, second-below, kept-gathered}
 use Rattle.contact_types.proofs.pruning.prune_points.Statement.{statement}
 use Rattle.contact_types.proofs.pruning.prune_points.Tie as tie
@@ -20,10 +22,9 @@ side-points-requires c κs =
 returns : tie.Need-returns
 returns c =
     let at = c .before .before .before .before in
-    let e =
-    kept-gathered _ _ _ _ (search needs) (search needs) (at .project-all .ensures) _ _ (c .before .before .before .first-point .ensures) (c .before .before .second-point .ensures)
-    (c .before .side-points .ensures) (c .gather .ensures .0) in
-    (e, c .gather .ensures .1)
+    c .gather .ensures
+    ∙ ap keptStruct (kept-gathered _ _ _ _ (search needs) (search needs) (at .project-all .ensures) _ _ (c .before .before .before .first-point .ensures) (c .before .before .second-point .ensures)
+    (c .before .side-points .ensures) refl)
 
 pub prune-points-spec : {M : Type 1} → statement M
 prune-points-spec = tie.close (tie.spec (search needs) (search needs) second-point-requires side-points-requires (search needs) returns)

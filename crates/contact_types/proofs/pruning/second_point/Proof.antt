@@ -5,14 +5,14 @@ use borrow.Author.Needs.{needs}
 use lib.Ieee.{Float}
 use Rattle.math.specs.Constants.{lowest}
 use Rattle.rules.specs.Numbers.{greater, leader}
-use Rattle.rules.specs.Pruning.{point2, weight, apart}
+use Rattle.rules.specs.Pruning.{point2, weight, otherThan}
 use Rattle.contact_types.specs.Pruned.{projectedBy}
 use Rattle.contact_types.specs.PruneSteps.{Stands, stands-start, turn-greater, weightFrom}
 use Rattle.contact_types.proofs.pruning.second_point.Statement.{statement}
 use Rattle.contact_types.proofs.pruning.second_point.Tie as tie
 
 abbrev Inv-loop : tie.InvT-loop
-Inv-loop count i ps from lead₀ k₀ lead k = (k ≤ count) × Stands lead (leader greater (weightFrom ps i) (apart i) lowest k)
+Inv-loop count i ps from lead₀ k₀ lead k = (k ≤ count) × Stands lead (leader greater (weightFrom ps i) (otherThan i) lowest k)
 
 abbrev μ-loop : tie.MeasureT-loop
 μ-loop count i ps from lead₀ k₀ lead k = count - k
@@ -26,7 +26,7 @@ loop-again c =
     let s = w .before .before .args in
     let v : c .before .weight .result ≡ weightFrom (s .t1) (s .i) (w .loop .k) =
     c .before .weight .ensures ∙ ap (λ (x : Float). weight x (projectedBy (s .t1) (w .loop .k))) (c .before .before .distance-squared .ensures) in
-    (search needs, turn-greater (weightFrom (s .t1) (s .i)) (apart (s .i)) lowest (w .loop .k) (w .loop .inv .1) refl v (c .overtake .ensures))
+    (search needs, turn-greater (weightFrom (s .t1) (s .i)) (otherThan (s .i)) lowest (w .loop .k) (w .loop .inv .1) refl v (c .overtake .ensures))
 
 returns : tie.Need-returns Inv-loop μ-loop
 unfolding point2

@@ -8,7 +8,7 @@ use Rattle.math.specs.Constants.{zeroF}
 use Rattle.math.specs.Vec.{_-v_, dot, cross}
 use Rattle.math.specs.declared.vec.Vec3.{Vec3}
 use Rattle.rules.specs.Numbers.{Better, greater, less, leader}
-use Rattle.rules.specs.Pruning.{side, rest, point3, point4}
+use Rattle.rules.specs.Pruning.{sideValue, rest, point3, point4}
 use Rattle.contact_types.specs.Pruned.{projectedBy, numbered}
 use Rattle.contact_types.specs.PruneSteps.{Stands, stands-start, turn-greater, turn-less}
 use Rattle.contact_types.specs.declared.pruning.Projected.{Projected}
@@ -41,7 +41,7 @@ loop-again c =
     )
 
 returns : tie.Need-returns Inv-loop μ-loop
-unfolding point3 point4 side
+unfolding point3 point4 sideValue
 returns c =
     let w = c .before in
     let at = w .before in

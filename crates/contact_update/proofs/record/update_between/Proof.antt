@@ -2,7 +2,7 @@
 use mathlib.Core.Path.{ap, _∙_}
 use Rattle.rules.specs.Sides.{overlap}
 use Rattle.contact_records.specs.Recorded.{pairAt}
-use Rattle.contact_update.specs.Branches.{updates-by, between-apart, between-overlapping, no-overlap, no-interaction, both-hold}
+use Rattle.contact_update.specs.Branches.{updates-by, between-disjoint, between-overlapping, no-overlap, no-interaction, both-hold}
 use borrow.Author.Needs.{needs}
 use Rattle.contact_update.proofs.record.update_between.Statement.{statement}
 use Rattle.contact_update.proofs.record.update_between.Tie as tie
@@ -11,13 +11,13 @@ returns : tie.Need-returns
 unfolding pairAt
 returns c =
     let o = c .before .before .before .before .before .overlap .ensures ∙ ap (overlap _ _) (c .before .before .before .before .before .before .load-float .ensures) in
-    record { under = λ id. updates-by (between-apart _ _ _ _ (pairAt (c .before .before .before .before .before .before .before .before .before .before .before .args .words .now) 0 id) _ _ (no-overlap _ o (c .before .before .before .before .if1 .taken))) (c .before .before .update-apart .ensures .under id) }
+    record { under = λ id. updates-by (between-disjoint _ _ _ _ (pairAt (c .before .before .before .before .before .before .before .before .before .before .before .args .words .now) 0 id) _ _ (no-overlap _ o (c .before .before .before .before .if1 .taken))) (c .before .before .update-disjoint .ensures .under id) }
 
 returns-2 : tie.Need-returns-2
 unfolding pairAt
 returns-2 c =
     let o = c .before .before .before .before .before .before .before .overlap .ensures ∙ ap (overlap _ _) (c .before .before .before .before .before .before .before .before .load-float .ensures) in
-    record { under = λ id. updates-by (between-apart _ _ _ _ (pairAt (c .before .before .before .before .before .before .before .before .before .before .before .before .before .args .words .now) 0 id) _ _ (no-interaction _ o (c .before .before .before .before .before .before .if1 .left) (c .before .before .before .before .before .layers-interact .ensures) (c .before .before .before .before .if2 .taken))) (c .before .before .update-apart2 .ensures .under id) }
+    record { under = λ id. updates-by (between-disjoint _ _ _ _ (pairAt (c .before .before .before .before .before .before .before .before .before .before .before .before .before .args .words .now) 0 id) _ _ (no-interaction _ o (c .before .before .before .before .before .before .if1 .left) (c .before .before .before .before .before .layers-interact .ensures) (c .before .before .before .before .if2 .taken))) (c .before .before .update-disjoint2 .ensures .under id) }
 
 side-at-requires : tie.Need-side-at-requires
 side-at-requires c κs = (c .before .before .before .before .before .before .before .before .before .pre .2, c .before .before .before .before .before .before .before .before .before .pre .0)

@@ -6,7 +6,7 @@ use Prim.Native.Nat.{_≤_, _<_, _+_, _*_, _-_}
 use native.Mathlib.Omega.{arith}
 use Rattle.rows.specs.Rows.{put}
 use Rattle.rows.specs.Slots.{upto}
-use Rattle.rules.specs.Filtering.{filtered, nonEmpty}
+use Rattle.rules.specs.Filtering.{filtered, withoutEmpty}
 use Rattle.collider.specs.Views.{plainSide}
 use Rattle.contact_parameters.specs.Views.{plainSurface}
 use Rattle.proposals.specs.Recorded.{proposedManifoldAt}
@@ -19,7 +19,7 @@ use Rattle.narrow_phase.proofs.manifold.store_new.Tie as tie
 abbrev Inv-loop : tie.InvT-loop
 Inv-loop proposal step-time a b f words₀ to n count₀ k₀ words count k =
     (k ≤ n) × (n ≤ 6) × (count ≤ k)
-    × ManifoldsStored (nonEmpty (map (filtered step-time (plainSide a) (plainSide b) (plainSurface f)) (map (λ j. proposedManifoldAt proposal (2 + j * 388)) (upto k)))) to words₀ words count
+    × ManifoldsStored (withoutEmpty (map (filtered step-time (plainSide a) (plainSide b) (plainSurface f)) (map (λ j. proposedManifoldAt proposal (2 + j * 388)) (upto k)))) to words₀ words count
 
 abbrev μ-loop : tie.MeasureT-loop
 μ-loop proposal step-time a b f words₀ to n count₀ k₀ words count k = n - k
@@ -28,7 +28,7 @@ room : (c : tie.Start Inv-loop μ-loop) → c .args .to + 486 < 1844674407370955
 room c = omega arith
 
 loop-holds : tie.Need-loop-holds Inv-loop μ-loop
-unfolding upto nonEmpty put
+unfolding upto withoutEmpty put
 loop-holds c =
     let m = c .before .before .before .pre .1 .manifolds in
     (search needs, omega (arith, c .load-word .ensures), search needs, record { words = refl; count = refl; few = omega arith })

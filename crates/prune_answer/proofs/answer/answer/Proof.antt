@@ -2,7 +2,7 @@
 use mathlib.Core.Path.{_≡_, sym, ap, _∙_}
 use borrow.Author.Needs.{needs}
 use lib.Ieee.{binary32, ofBits}
-use Rattle.contact_types.specs.Prune.{answerOf}
+use Rattle.contact_types.specs.PruneLaws.{plainAnswer, pruned-plain}
 use Rattle.contact_types.specs.declared.prune.PruneAnswer.{PruneAnswer}
 use Rattle.contact_types.specs.declared.prune.PruneAnswer.the-variants.{Kept, Refused}
 use Rattle.contact_types.specs.declared.refusal.Refusal.the-variants.{WrongLength}
@@ -23,7 +23,7 @@ slice-aggregate-prune c = let r = c .before .before .before .before .before .bef
 
 -- after `prune`: the lines of its answer are those of the text
 lines : (c : tie.After-prune) {b : PruneAnswer} → c .prune .result ≡ b
-    → answerText (c .before .before .before .before .before .before .before .before .before .before .before .args .text .now) ≡ linesOf (answerOf b)
+    → answerText (c .before .before .before .before .before .before .before .before .before .before .before .args .text .now) ≡ linesOf (plainAnswer b)
 lines c e =
     let f = c .before .before in
     let h = f .before .before .before .before in
@@ -35,7 +35,7 @@ lines c e =
 write-all-kept-requires : tie.Need-write-all-kept-requires
 write-all-kept-requires c κs =
     let k = c .before .before in
-    (search needs, kept-small _ _ _ _ (ap answerOf (sym (k .kept .given .1)) ∙ k .before .before .prune .ensures .answer))
+    (search needs, kept-small _ _ _ _ (ap plainAnswer (sym (k .kept .given .1)) ∙ pruned-plain (k .before .before .prune .ensures)))
 
 write-refused-requires-2 : tie.Need-write-refused-requires-2
 write-refused-requires-2 c κs = (rw (c .number .ensures) (number-small (c .before .before .before .refusal .given .0 .0)), search needs)

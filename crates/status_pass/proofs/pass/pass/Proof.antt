@@ -9,11 +9,11 @@ use Rattle.status_pass.proofs.pass.pass.Statement.{statement}
 use Rattle.status_pass.proofs.pass.pass.Tie as tie
 
 abbrev Inv-loop : tie.InvT-loop
-Inv-loop g₀ es₀ cs₀ ids n said₀ k₀ g es cs said k =
-    (k ≤ n) × Left (passWords (begun g₀) (take k (take n ids))) es₀ cs₀ g es cs said × (length g ≡ length g₀) × (length es ≡ length es₀) × (length cs ≡ length cs₀)
+Inv-loop g₀ es₀ cs₀ ids n counts₀ k₀ g es cs counts k =
+    (k ≤ n) × Left (passWords (begun g₀) (take k (take n ids))) es₀ cs₀ g es cs counts × (length g ≡ length g₀) × (length es ≡ length es₀) × (length cs ≡ length cs₀)
 
 abbrev μ-loop : tie.MeasureT-loop
-μ-loop g₀ es₀ cs₀ ids n said₀ k₀ g es cs said k = n - k
+μ-loop g₀ es₀ cs₀ ids n counts₀ k₀ g es cs counts k = n - k
 
 loop-holds : tie.Need-loop-holds Inv-loop μ-loop
 unfolding passWords

@@ -63,7 +63,7 @@ returns : tie.Need-returns
 returns c =
     let at = c .before .before .before .before .before .before .before .before .before .before .before .before .before .before .before .contact-at .result in
     let p = own-pair (c .before .before .before .before .before .before .before .before .before .before .before .before .before .before .before .before .before .before .before .before .args .id) (c .before .before .before .before .before .before .before .before .before .before .before .before .before .before .before .before .before .before .before .before .pre .checked) (c .before .before .before .before .before .before .before .before .before .before .before .before .before .before .before .before .before .before .before .before .pre .standing) (c .before .before .before .before .before .before .before .before .before .before .before .before .before .before .before .contact-at .ensures .place) (let e : at + 523 - at ≡ 523 = omega arith in e) in
-    visit-done (c .before .before .before .before .before .before .before .before .before .before .before .before .before .before .before .before .before .before .before .before .args .said .events) (c .before .before .before .before .before .before .before .before .before .before .before .before .before .before .before .before .before .before .before .before .args .said .changes) _ p (c .before .before .before .before .before .before .before .before .before .before .before .before .verdict-of .ensures) (c .before .before .before .before .before .before .before .before .before .before .record-event .ensures) (c .before .before .before .before .before .before .record-change .ensures) (c .before .before .leave .ensures)
+    visit-done (c .before .before .before .before .before .before .before .before .before .before .before .before .before .before .before .before .before .before .before .before .args .counts .events) (c .before .before .before .before .before .before .before .before .before .before .before .before .before .before .before .before .before .before .before .before .args .counts .changes) _ p (c .before .before .before .before .before .before .before .before .before .before .before .before .verdict-of .ensures) (c .before .before .before .before .before .before .before .before .before .before .record-event .ensures) (c .before .before .before .before .before .before .record-change .ensures) (c .before .before .leave .ensures)
 
 pub visit-spec : {M : Type 1} → statement M
 visit-spec = tie.close (tie.spec contact-at-requires add-end mul-own sub-own part-own-start part-own-end verdict-of-requires record-event-requires record-change-requires leave-requires (search needs) (search needs) (search needs) returns)

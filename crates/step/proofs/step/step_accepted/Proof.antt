@@ -3,7 +3,7 @@ use mathlib.Core.Path.{refl, ap, _∙_}
 use native.Mathlib.Omega.{arith}
 use Rattle.data_structures.specs.BitVec.{blocksOf}
 use Rattle.step.specs.Accepted.{accepted}
-use Rattle.step.specs.CodeLaws.{shares-ready, updates-left, count-few, bits-size, ids-room, rows-there, step-done, said-few}
+use Rattle.step.specs.CodeLaws.{shares-ready, updates-left, count-few, bits-size, ids-room, rows-there, step-done, counts-few}
 use borrow.Author.Needs.{needs}
 use Rattle.step.proofs.step.step_accepted.Statement.{statement}
 use Rattle.step.proofs.step.step_accepted.Tie as tie
@@ -36,7 +36,7 @@ cast-t38 c =
     let a = accepted _ _ _ (c .before .before .before .before .before .before .before .before .before .before .before .before .before .before .before .before .before .before .before .before .before .before .before .before .before .before .before .before .before .before .before .before .before .before .before .before .before .before .before .before .pre) in
     let u = updates-left a (c .before .before .before .before .before .before .before .before .before .before .before .before .before .before .before .before .before .before .before .before .before .before .before .before .before .before .before .before .before .load-settings .ensures) (c .before .before .before .before .before .before .before .before .before .before .before .before .before .before .before .before .before .before .before .before .before .before .update-all .ensures) in
     let k = c .before .before .before .before .before .before .before .before .before .before .before .before .before .before .before .before .before .before .before .before .before .before .before .before .before .before .blocks2 .ensures ∙ ap blocksOf (c .before .before .before .before .before .before .before .before .before .before .before .before .before .before .before .before .before .before .before .before .before .before .before .before .before .before .before .number-at .ensures) in
-    let f = said-few a u k refl (c .before .before .before .before .before .before .before .before .before .before .before .before .before .standing .ensures) (c .before .before .before .before .before .before .before .pass .ensures) in
+    let f = counts-few a u k refl (c .before .before .before .before .before .before .before .before .before .before .before .before .before .standing .ensures) (c .before .before .before .before .before .before .before .pass .ensures) in
     omega (arith, f .0)
 
 cast-t39 : tie.Need-cast-t39
@@ -44,7 +44,7 @@ cast-t39 c =
     let a = accepted _ _ _ (c .before .before .before .before .before .before .before .before .before .before .before .before .before .before .before .before .before .before .before .before .before .before .before .before .before .before .before .before .before .before .before .before .before .before .before .before .before .before .before .before .before .pre) in
     let u = updates-left a (c .before .before .before .before .before .before .before .before .before .before .before .before .before .before .before .before .before .before .before .before .before .before .before .before .before .before .before .before .before .before .load-settings .ensures) (c .before .before .before .before .before .before .before .before .before .before .before .before .before .before .before .before .before .before .before .before .before .before .before .update-all .ensures) in
     let k = c .before .before .before .before .before .before .before .before .before .before .before .before .before .before .before .before .before .before .before .before .before .before .before .before .before .before .before .blocks2 .ensures ∙ ap blocksOf (c .before .before .before .before .before .before .before .before .before .before .before .before .before .before .before .before .before .before .before .before .before .before .before .before .before .before .before .before .number-at .ensures) in
-    let f = said-few a u k refl (c .before .before .before .before .before .before .before .before .before .before .before .before .before .before .standing .ensures) (c .before .before .before .before .before .before .before .before .pass .ensures) in
+    let f = counts-few a u k refl (c .before .before .before .before .before .before .before .before .before .before .before .before .before .before .standing .ensures) (c .before .before .before .before .before .before .before .before .pass .ensures) in
     omega (arith, f .1)
 
 returns : tie.Need-returns

@@ -1,0 +1,9 @@
+pub mod Opened
+pub mod Seen
+pub mod NextLaws
+pub mod PastLaws
+pub mod Calls
+pub mod Answers
+pub mod RowWords
+pub mod Runs
+pub mod TwoWorkers

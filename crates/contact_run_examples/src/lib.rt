@@ -1,0 +1,1 @@
+// Lists of calls whose runs are computed: see specs/. No code.
