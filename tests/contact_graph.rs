@@ -1,6 +1,6 @@
 // The expected output of crates/contact_graph_table and crates/contact_graph_damage from a plain model after the specification:
-// rustc -O -o /tmp/contact_graph tests/contact_graph.rs && /tmp/contact_graph table > crates/contact_graph_table/stdout
-// /tmp/contact_graph damage > crates/contact_graph_damage/stdout
+// rustc -O -o target/contact_graph tests/contact_graph.rs && target/contact_graph table > crates/contact_graph_table/stdout
+// target/contact_graph damage > crates/contact_graph_damage/stdout
 
 // ---- The model: the pairs in order, the ids given, the free ids in the order freed.
 #[derive(Clone, Copy)]

@@ -1,6 +1,6 @@
 /* The table of crates/math_table from the hardware's IEEE floats, by the rules of the scope's
    'Float leaves'. It makes the expected output:
-   cc -std=c11 -O0 -ffp-contract=off -fno-fast-math -msse2 -mfpmath=sse -o /tmp/math_table tests/math_table.c -lm && /tmp/math_table > crates/math_table/stdout */
+   cc -std=c11 -O0 -ffp-contract=off -fno-fast-math -msse2 -mfpmath=sse -o target/math_table tests/math_table.c -lm && target/math_table > crates/math_table/stdout */
 #include <math.h>
 #include <stdint.h>
 #include <stdio.h>
