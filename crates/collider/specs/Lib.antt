@@ -1,9 +1,8 @@
-pub mod Layout
 pub mod Recorded
 pub mod Range
 pub mod Views
 pub mod Boxes
-pub mod Tests
-pub mod RangeSteps
-pub mod Loaded
+pub mod TestLaws
+pub mod RangeStepLaws
+pub mod LoadedLaws
 pub mod RuleLaws

@@ -7,7 +7,9 @@ use lib.Dec.{eqb, ltb, leb}
 use Rattle.rules.specs.Limits.{colliders, bodies}
 use Rattle.rules.specs.Numbers.{every}
 use Rattle.words.specs.Words.{wordAt}
-use Rattle.collider.specs.Layout as place
+use Rattle.layout.specs.Body.{bodyFriction, bodyMargin, bodySize, bodySpeculativeMaximum, bodyStatic}
+use Rattle.layout.specs.Collider.{colliderBody, colliderFriction, colliderMargin, colliderRestitution, colliderSensor, colliderSize}
+use Rattle.layout.specs.Settings.{settingsFriction, settingsMatchContacts, settingsRestitution}
 
 -- a mark is 0 or 1
 abbrev pub isMark : ℕ → Bool
@@ -26,25 +28,25 @@ abbrev pub coefficientFits : List ℕ → ℕ → Bool
 coefficientFits xs at = whereSet (wordAt xs at) (isRule (wordAt xs (at + 2)))
 
 unfoldable pub settingsFit : List ℕ → Bool
-settingsFit xs = isMark (wordAt xs place.matchPlace) && (isRule (wordAt xs (place.defaultFrictionPlace + 1)) && isRule (wordAt xs (place.defaultRestitutionPlace + 1)))
+settingsFit xs = isMark (wordAt xs settingsMatchContacts) && (isRule (wordAt xs (settingsFriction + 1)) && isRule (wordAt xs (settingsRestitution + 1)))
 
 unfoldable pub colliderFits : List ℕ → ℕ → Bool
 colliderFits xs at =
     whereSet (wordAt xs at)
-    (whereSet (wordAt xs (at + place.colliderBodyPlace)) (ltb (wordAt xs (at + place.colliderBodyPlace + 1)) bodies)
-    && (coefficientFits xs (at + place.colliderFrictionPlace)
-    && (coefficientFits xs (at + place.restitutionPlace)
-    && (isMark (wordAt xs (at + place.colliderMarginPlace)) && isMark (wordAt xs (at + place.sensorPlace))))))
+    (whereSet (wordAt xs (at + colliderBody)) (ltb (wordAt xs (at + colliderBody + 1)) bodies)
+    && (coefficientFits xs (at + colliderFriction)
+    && (coefficientFits xs (at + colliderRestitution)
+    && (isMark (wordAt xs (at + colliderMargin)) && isMark (wordAt xs (at + colliderSensor))))))
 
 unfoldable pub collidersFit : List ℕ → Bool
-collidersFit xs = every (λ n. colliderFits xs (n * place.colliderSize)) colliders
+collidersFit xs = every (λ n. colliderFits xs (n * colliderSize)) colliders
 
 unfoldable pub bodyFits : List ℕ → ℕ → Bool
 bodyFits xs at =
     whereSet (wordAt xs at)
-    (isMark (wordAt xs (at + place.staticPlace))
-    && (coefficientFits xs (at + place.bodyFrictionPlace)
-    && (isMark (wordAt xs (at + place.bodyMarginPlace)) && isMark (wordAt xs (at + place.speculativePlace)))))
+    (isMark (wordAt xs (at + bodyStatic))
+    && (coefficientFits xs (at + bodyFriction)
+    && (isMark (wordAt xs (at + bodyMargin)) && isMark (wordAt xs (at + bodySpeculativeMaximum)))))
 
 unfoldable pub bodiesFit : List ℕ → Bool
-bodiesFit xs = every (λ n. bodyFits xs (n * place.bodySize)) bodies
+bodiesFit xs = every (λ n. bodyFits xs (n * bodySize)) bodies

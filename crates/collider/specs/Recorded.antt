@@ -8,7 +8,9 @@ use lib.Ieee.{Float}
 use Rattle.math.specs.declared.pose.Pose.{Pose}
 use Rattle.rules.specs.Inputs.{Coefficient, Settings, Collider, Body}
 use Rattle.words.specs.Words.{wordAt, floatAt, vec3At, quatAt}
-use Rattle.collider.specs.Layout as place
+use Rattle.layout.specs.Body.{bodyAngularVelocity, bodyCenterOfMass, bodyFriction, bodyLinearVelocity, bodyMargin, bodyPosition, bodySize, bodySpeculativeMaximum, bodyStatic, bodySweepRadius}
+use Rattle.layout.specs.Collider.{colliderBody, colliderFilters, colliderFriction, colliderLower, colliderMargin, colliderMemberships, colliderPosition, colliderRestitution, colliderSensor, colliderSize, colliderUpper}
+use Rattle.layout.specs.Settings.{settingsContactTolerance, settingsFriction, settingsLengthUnit, settingsMatchContacts, settingsRecycleCosine, settingsRecycleDistance, settingsRestitution, settingsStepTime}
 
 -- a mark is read as set where it is 1
 abbrev pub markAt : List ℕ → ℕ → Bool
@@ -30,35 +32,35 @@ coefficientIfAt xs at = cond (markAt xs at) (some (coefficientAt xs (at + 1))) n
 unfoldable pub settingsOf : List ℕ → Settings
 settingsOf xs =
     record {
-      stepTime = floatAt xs 0;
-      lengthUnit = floatAt xs 1;
-      contactTolerance = floatAt xs 2;
-      recycleDistance = floatAt xs 3;
-      recycleCosine = floatAt xs 4;
-      matchContacts = markAt xs place.matchPlace;
-      defaultFriction = coefficientAt xs place.defaultFrictionPlace;
-      defaultRestitution = coefficientAt xs place.defaultRestitutionPlace;
+      stepTime = floatAt xs settingsStepTime;
+      lengthUnit = floatAt xs settingsLengthUnit;
+      contactTolerance = floatAt xs settingsContactTolerance;
+      recycleDistance = floatAt xs settingsRecycleDistance;
+      recycleCosine = floatAt xs settingsRecycleCosine;
+      matchContacts = markAt xs settingsMatchContacts;
+      defaultFriction = coefficientAt xs settingsFriction;
+      defaultRestitution = coefficientAt xs settingsRestitution;
     }
 
 -- the record at a place, whose presence mark is set
 unfoldable pub presentCollider : List ℕ → ℕ → Collider
 presentCollider xs at =
     record {
-      body = numberIfAt xs (at + place.colliderBodyPlace);
-      lower = vec3At xs (at + place.lowerPlace);
-      upper = vec3At xs (at + place.upperPlace);
-      position = vec3At xs (at + place.colliderPositionPlace);
-      memberships = wordAt xs (at + place.membershipsPlace);
-      filters = wordAt xs (at + place.filtersPlace);
-      friction = coefficientIfAt xs (at + place.colliderFrictionPlace);
-      restitution = coefficientIfAt xs (at + place.restitutionPlace);
-      margin = floatIfAt xs (at + place.colliderMarginPlace);
-      sensor = markAt xs (at + place.sensorPlace);
+      body = numberIfAt xs (at + colliderBody);
+      lower = vec3At xs (at + colliderLower);
+      upper = vec3At xs (at + colliderUpper);
+      position = vec3At xs (at + colliderPosition);
+      memberships = wordAt xs (at + colliderMemberships);
+      filters = wordAt xs (at + colliderFilters);
+      friction = coefficientIfAt xs (at + colliderFriction);
+      restitution = coefficientIfAt xs (at + colliderRestitution);
+      margin = floatIfAt xs (at + colliderMargin);
+      sensor = markAt xs (at + colliderSensor);
     }
 
 -- collider n, absent where its mark is not set
 unfoldable pub colliderAt : List ℕ → ℕ → Option Collider
-colliderAt xs n = cond (markAt xs (n * place.colliderSize)) (some (presentCollider xs (n * place.colliderSize))) none
+colliderAt xs n = cond (markAt xs (n * colliderSize)) (some (presentCollider xs (n * colliderSize))) none
 
 abbrev pub poseAt : List ℕ → ℕ → Pose
 poseAt xs at = record { position = vec3At xs at; rotation = quatAt xs (at + 3) }
@@ -66,16 +68,16 @@ poseAt xs at = record { position = vec3At xs at; rotation = quatAt xs (at + 3) }
 unfoldable pub presentBody : List ℕ → ℕ → Body
 presentBody xs at =
     record {
-      fixed = markAt xs (at + place.staticPlace);
-      pose = poseAt xs (at + place.posePlace);
-      centre = vec3At xs (at + place.centrePlace);
-      velocity = vec3At xs (at + place.velocityPlace);
-      spin = vec3At xs (at + place.spinPlace);
-      friction = coefficientIfAt xs (at + place.bodyFrictionPlace);
-      margin = floatIfAt xs (at + place.bodyMarginPlace);
-      speculativeMaximum = floatIfAt xs (at + place.speculativePlace);
-      sweepRadius = floatAt xs (at + place.sweepPlace);
+      isStatic = markAt xs (at + bodyStatic);
+      pose = poseAt xs (at + bodyPosition);
+      centerOfMass = vec3At xs (at + bodyCenterOfMass);
+      linearVelocity = vec3At xs (at + bodyLinearVelocity);
+      angularVelocity = vec3At xs (at + bodyAngularVelocity);
+      friction = coefficientIfAt xs (at + bodyFriction);
+      margin = floatIfAt xs (at + bodyMargin);
+      speculativeMaximum = floatIfAt xs (at + bodySpeculativeMaximum);
+      sweepRadius = floatAt xs (at + bodySweepRadius);
     }
 
 unfoldable pub bodyAt : List ℕ → ℕ → Option Body
-bodyAt xs n = cond (markAt xs (n * place.bodySize)) (some (presentBody xs (n * place.bodySize))) none
+bodyAt xs n = cond (markAt xs (n * bodySize)) (some (presentBody xs (n * bodySize))) none

@@ -70,11 +70,11 @@ plainColliderIf colliderIf.Absent = none
 abbrev pub plainBody : BodyRecord → rules.Body
 plainBody b =
     record {
-      fixed = b .fixed;
+      isStatic = b .«is_static»;
       pose = b .pose;
-      centre = b .centre;
-      velocity = b .velocity;
-      spin = b .spin;
+      centerOfMass = b .«center_of_mass»;
+      linearVelocity = b .«linear_velocity»;
+      angularVelocity = b .«angular_velocity»;
       friction = plainCoefficientIf (b .friction);
       margin = plainFloatIf (b .margin);
       speculativeMaximum = plainFloatIf (b .«speculative_maximum»);
@@ -88,13 +88,13 @@ plainBodyIf bodyIf.Absent = none
 abbrev pub plainSide : Side → sides.Side
 plainSide a =
     record {
-      here = a .here;
-      fixed = a .fixed;
+      present = a .present;
+      isStatic = a .«is_static»;
       offset = a .offset;
       worldCom = a .«world_com»;
       pose = a .pose;
-      velocity = a .velocity;
-      spin = a .spin;
+      linearVelocity = a .«linear_velocity»;
+      angularVelocity = a .«angular_velocity»;
       friction = plainCoefficientIf (a .friction);
       margin = plainFloatIf (a .margin);
       speculativeMaximum = plainFloatIf (a .«speculative_maximum»);

@@ -3,24 +3,24 @@ ghost use mathlib.Core.Path.{_≡_};
 ghost use Prim.Native.Nat.{_+_, _≤_, _<_};
 ghost use lib.ListN.{length};
 ghost use Rattle.rules.specs.Limits.{bodies};
-ghost use Rattle.collider.specs.Layout.{bodySize, bodiesLength};
+ghost use Rattle.layout.specs.Body.{bodiesLength, bodySize};
 ghost use Rattle.collider.specs.Recorded.{poseAt, presentBody, bodyAt};
 ghost use Rattle.collider.specs.Views.{plainBody, plainBodyIf};
-use crate::layout::BODY_FRICTION_PLACE;
-use crate::layout::BODY_MARGIN_PLACE;
-use crate::layout::BODY_SIZE;
-use crate::layout::CENTRE_PLACE;
-use crate::layout::POSE_PLACE;
-use crate::layout::SPECULATIVE_PLACE;
-use crate::layout::SPIN_PLACE;
-use crate::layout::STATIC_PLACE;
-use crate::layout::SWEEP_PLACE;
-use crate::layout::VELOCITY_PLACE;
 use crate::optional::OptionalCoefficient;
 use crate::optional::OptionalFloat;
 use crate::optional::load_coefficient_if;
 use crate::optional::load_float_if;
 use crate::optional::load_mark;
+use layout::body::BODY_ANGULAR_VELOCITY;
+use layout::body::BODY_CENTER_OF_MASS;
+use layout::body::BODY_FRICTION;
+use layout::body::BODY_LINEAR_VELOCITY;
+use layout::body::BODY_MARGIN;
+use layout::body::BODY_POSITION;
+use layout::body::BODY_SIZE;
+use layout::body::BODY_SPECULATIVE_MAXIMUM;
+use layout::body::BODY_STATIC;
+use layout::body::BODY_SWEEP_RADIUS;
 use math::pose::Pose;
 use math::vec::Vec3;
 use words::row::load_float;
@@ -29,12 +29,12 @@ use words::vec::load_vec3;
 
 pub struct BodyRecord {
     // A static body.
-    pub fixed: bool,
+    pub is_static: bool,
     pub pose: Pose,
-    // The centre of mass, in the body's space.
-    pub centre: Vec3,
-    pub velocity: Vec3,
-    pub spin: Vec3,
+    // In the body's space.
+    pub center_of_mass: Vec3,
+    pub linear_velocity: Vec3,
+    pub angular_velocity: Vec3,
     pub friction: OptionalCoefficient,
     pub margin: OptionalFloat,
     pub speculative_maximum: OptionalFloat,
@@ -62,15 +62,15 @@ fn load_present_body(words: &[u32], at: usize) -> BodyRecord
     ensures { λ r. ⌜ plainBody r ≡ presentBody (now (words .entry)) at ⌝ }
 {
     BodyRecord {
-        fixed: load_mark(words, at + STATIC_PLACE),
-        pose: load_pose(words, at + POSE_PLACE),
-        centre: load_vec3(words, at + CENTRE_PLACE),
-        velocity: load_vec3(words, at + VELOCITY_PLACE),
-        spin: load_vec3(words, at + SPIN_PLACE),
-        friction: load_coefficient_if(words, at + BODY_FRICTION_PLACE),
-        margin: load_float_if(words, at + BODY_MARGIN_PLACE),
-        speculative_maximum: load_float_if(words, at + SPECULATIVE_PLACE),
-        sweep_radius: load_float(words, at + SWEEP_PLACE),
+        is_static: load_mark(words, at + BODY_STATIC),
+        pose: load_pose(words, at + BODY_POSITION),
+        center_of_mass: load_vec3(words, at + BODY_CENTER_OF_MASS),
+        linear_velocity: load_vec3(words, at + BODY_LINEAR_VELOCITY),
+        angular_velocity: load_vec3(words, at + BODY_ANGULAR_VELOCITY),
+        friction: load_coefficient_if(words, at + BODY_FRICTION),
+        margin: load_float_if(words, at + BODY_MARGIN),
+        speculative_maximum: load_float_if(words, at + BODY_SPECULATIVE_MAXIMUM),
+        sweep_radius: load_float(words, at + BODY_SWEEP_RADIUS),
     }
 }
 

@@ -3,20 +3,9 @@ ghost use mathlib.Core.Path.{_≡_};
 ghost use Prim.Native.Nat.{_+_, _≤_, _<_};
 ghost use lib.ListN.{length};
 ghost use Rattle.rules.specs.Limits.{colliders};
-ghost use Rattle.collider.specs.Layout.{colliderSize, collidersLength};
+ghost use Rattle.layout.specs.Collider.{colliderSize, collidersLength};
 ghost use Rattle.collider.specs.Recorded.{presentCollider, colliderAt};
 ghost use Rattle.collider.specs.Views.{plainCollider, plainColliderIf};
-use crate::layout::COLLIDER_BODY_PLACE;
-use crate::layout::COLLIDER_FRICTION_PLACE;
-use crate::layout::COLLIDER_MARGIN_PLACE;
-use crate::layout::COLLIDER_POSITION_PLACE;
-use crate::layout::COLLIDER_SIZE;
-use crate::layout::FILTERS_PLACE;
-use crate::layout::LOWER_PLACE;
-use crate::layout::MEMBERSHIPS_PLACE;
-use crate::layout::RESTITUTION_PLACE;
-use crate::layout::SENSOR_PLACE;
-use crate::layout::UPPER_PLACE;
 use crate::optional::OptionalBody;
 use crate::optional::OptionalCoefficient;
 use crate::optional::OptionalFloat;
@@ -24,6 +13,17 @@ use crate::optional::load_body_if;
 use crate::optional::load_coefficient_if;
 use crate::optional::load_float_if;
 use crate::optional::load_mark;
+use layout::collider::COLLIDER_BODY;
+use layout::collider::COLLIDER_FILTERS;
+use layout::collider::COLLIDER_FRICTION;
+use layout::collider::COLLIDER_LOWER;
+use layout::collider::COLLIDER_MARGIN;
+use layout::collider::COLLIDER_MEMBERSHIPS;
+use layout::collider::COLLIDER_POSITION;
+use layout::collider::COLLIDER_RESTITUTION;
+use layout::collider::COLLIDER_SENSOR;
+use layout::collider::COLLIDER_SIZE;
+use layout::collider::COLLIDER_UPPER;
 use math::vec::Vec3;
 use words::row::load_word;
 use words::vec::load_vec3;
@@ -52,16 +52,16 @@ fn load_present_collider(words: &[u32], at: usize) -> ColliderRecord
     ensures { λ r. ⌜ plainCollider r ≡ presentCollider (now (words .entry)) at ⌝ }
 {
     ColliderRecord {
-        body: load_body_if(words, at + COLLIDER_BODY_PLACE),
-        lower: load_vec3(words, at + LOWER_PLACE),
-        upper: load_vec3(words, at + UPPER_PLACE),
-        position: load_vec3(words, at + COLLIDER_POSITION_PLACE),
-        memberships: load_word(words, at + MEMBERSHIPS_PLACE),
-        filters: load_word(words, at + FILTERS_PLACE),
-        friction: load_coefficient_if(words, at + COLLIDER_FRICTION_PLACE),
-        restitution: load_coefficient_if(words, at + RESTITUTION_PLACE),
-        margin: load_float_if(words, at + COLLIDER_MARGIN_PLACE),
-        sensor: load_mark(words, at + SENSOR_PLACE),
+        body: load_body_if(words, at + COLLIDER_BODY),
+        lower: load_vec3(words, at + COLLIDER_LOWER),
+        upper: load_vec3(words, at + COLLIDER_UPPER),
+        position: load_vec3(words, at + COLLIDER_POSITION),
+        memberships: load_word(words, at + COLLIDER_MEMBERSHIPS),
+        filters: load_word(words, at + COLLIDER_FILTERS),
+        friction: load_coefficient_if(words, at + COLLIDER_FRICTION),
+        restitution: load_coefficient_if(words, at + COLLIDER_RESTITUTION),
+        margin: load_float_if(words, at + COLLIDER_MARGIN),
+        sensor: load_mark(words, at + COLLIDER_SENSOR),
     }
 }
 

@@ -3,7 +3,6 @@ pub mod aabb;
 pub mod body_record;
 pub mod collider_record;
 pub mod layers;
-pub mod layout;
 pub mod optional;
 pub mod overlap;
 pub mod range;

@@ -4,25 +4,27 @@ ghost use mathlib.Core.Path.{_≡_};
 ghost use Prim.Native.Nat.{_+_, _≤_, _<_};
 ghost use lib.ListN.{length};
 ghost use Rattle.words.specs.Words.{wordAt};
-ghost use Rattle.collider.specs.Layout.{settingsLength, colliderSize, collidersLength, bodySize, bodiesLength};
+ghost use Rattle.layout.specs.Body.{bodiesLength, bodySize};
+ghost use Rattle.layout.specs.Collider.{colliderSize, collidersLength};
+ghost use Rattle.layout.specs.Settings.{settingsLength};
 ghost use Rattle.collider.specs.Range.{isMark, isRule, whereSet, coefficientFits, settingsFit, colliderFits, collidersFit, bodyFits, bodiesFit};
-ghost use Rattle.collider.specs.RangeSteps.{bodyNumberFits, colliderValuesFit, bodyValuesFit};
-use crate::layout::BODIES;
-use crate::layout::BODY_FRICTION_PLACE;
-use crate::layout::BODY_MARGIN_PLACE;
-use crate::layout::BODY_SIZE;
-use crate::layout::COLLIDER_BODY_PLACE;
-use crate::layout::COLLIDER_FRICTION_PLACE;
-use crate::layout::COLLIDER_MARGIN_PLACE;
-use crate::layout::COLLIDER_SIZE;
-use crate::layout::COLLIDERS;
-use crate::layout::DEFAULT_FRICTION_PLACE;
-use crate::layout::DEFAULT_RESTITUTION_PLACE;
-use crate::layout::MATCH_PLACE;
-use crate::layout::RESTITUTION_PLACE;
-use crate::layout::SENSOR_PLACE;
-use crate::layout::SPECULATIVE_PLACE;
-use crate::layout::STATIC_PLACE;
+ghost use Rattle.collider.specs.RangeStepLaws.{bodyNumberFits, colliderValuesFit, bodyValuesFit};
+use layout::body::BODY_FRICTION;
+use layout::body::BODY_MARGIN;
+use layout::body::BODY_SIZE;
+use layout::body::BODY_SPECULATIVE_MAXIMUM;
+use layout::body::BODY_STATIC;
+use layout::collider::COLLIDER_BODY;
+use layout::collider::COLLIDER_FRICTION;
+use layout::collider::COLLIDER_MARGIN;
+use layout::collider::COLLIDER_RESTITUTION;
+use layout::collider::COLLIDER_SENSOR;
+use layout::collider::COLLIDER_SIZE;
+use layout::limits::BODIES;
+use layout::limits::COLLIDERS;
+use layout::settings::SETTINGS_FRICTION;
+use layout::settings::SETTINGS_MATCH_CONTACTS;
+use layout::settings::SETTINGS_RESTITUTION;
 
 fn mark_fits(words: &[u32], at: usize) -> bool
     requires { ⌜ at < length (now words) ⌝ }
@@ -70,20 +72,19 @@ pub fn settings_fit(words: &[u32]) -> bool
     requires { ⌜ length (now words) ≡ settingsLength ⌝ }
     ensures { λ r. ⌜ r ≡ settingsFit (now (words .entry)) ⌝ }
 {
-    mark_fits(words, MATCH_PLACE)
-        && (rule_fits(words, DEFAULT_FRICTION_PLACE + 1)
-            && rule_fits(words, DEFAULT_RESTITUTION_PLACE + 1))
+    mark_fits(words, SETTINGS_MATCH_CONTACTS)
+        && (rule_fits(words, SETTINGS_FRICTION + 1) && rule_fits(words, SETTINGS_RESTITUTION + 1))
 }
 
 fn collider_values_fit(words: &[u32], at: usize) -> bool
     requires { ⌜ at + colliderSize ≤ length (now words) ⌝ }
     ensures { λ r. ⌜ r ≡ colliderValuesFit (now (words .entry)) at ⌝ }
 {
-    body_number_fits(words, at + COLLIDER_BODY_PLACE)
-        && (coefficient_fits(words, at + COLLIDER_FRICTION_PLACE)
-            && (coefficient_fits(words, at + RESTITUTION_PLACE)
-                && (mark_fits(words, at + COLLIDER_MARGIN_PLACE)
-                    && mark_fits(words, at + SENSOR_PLACE))))
+    body_number_fits(words, at + COLLIDER_BODY)
+        && (coefficient_fits(words, at + COLLIDER_FRICTION)
+            && (coefficient_fits(words, at + COLLIDER_RESTITUTION)
+                && (mark_fits(words, at + COLLIDER_MARGIN)
+                    && mark_fits(words, at + COLLIDER_SENSOR))))
 }
 
 fn collider_fits(words: &[u32], at: usize) -> bool
@@ -115,10 +116,10 @@ fn body_values_fit(words: &[u32], at: usize) -> bool
     requires { ⌜ at + bodySize ≤ length (now words) ⌝ }
     ensures { λ r. ⌜ r ≡ bodyValuesFit (now (words .entry)) at ⌝ }
 {
-    mark_fits(words, at + STATIC_PLACE)
-        && (coefficient_fits(words, at + BODY_FRICTION_PLACE)
-            && (mark_fits(words, at + BODY_MARGIN_PLACE)
-                && mark_fits(words, at + SPECULATIVE_PLACE)))
+    mark_fits(words, at + BODY_STATIC)
+        && (coefficient_fits(words, at + BODY_FRICTION)
+            && (mark_fits(words, at + BODY_MARGIN)
+                && mark_fits(words, at + BODY_SPECULATIVE_MAXIMUM)))
 }
 
 fn body_fits(words: &[u32], at: usize) -> bool

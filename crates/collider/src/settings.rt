@@ -1,15 +1,20 @@
 // The settings of a step.
 ghost use mathlib.Core.Path.{_≡_};
 ghost use lib.ListN.{length};
-ghost use Rattle.collider.specs.Layout.{settingsLength};
+ghost use Rattle.layout.specs.Settings.{settingsLength};
 ghost use Rattle.collider.specs.Recorded.{settingsOf};
 ghost use Rattle.collider.specs.Views.{plainSettings};
-use crate::layout::DEFAULT_FRICTION_PLACE;
-use crate::layout::DEFAULT_RESTITUTION_PLACE;
-use crate::layout::MATCH_PLACE;
 use crate::optional::Coefficient;
 use crate::optional::load_coefficient;
 use crate::optional::load_mark;
+use layout::settings::SETTINGS_CONTACT_TOLERANCE;
+use layout::settings::SETTINGS_FRICTION;
+use layout::settings::SETTINGS_LENGTH_UNIT;
+use layout::settings::SETTINGS_MATCH_CONTACTS;
+use layout::settings::SETTINGS_RECYCLE_COSINE;
+use layout::settings::SETTINGS_RECYCLE_DISTANCE;
+use layout::settings::SETTINGS_RESTITUTION;
+use layout::settings::SETTINGS_STEP_TIME;
 use words::row::load_float;
 
 pub struct Settings {
@@ -29,13 +34,13 @@ pub fn load_settings(words: &[u32]) -> Settings
     ensures { λ r. ⌜ plainSettings r ≡ settingsOf (now (words .entry)) ⌝ }
 {
     Settings {
-        step_time: load_float(words, 0),
-        length_unit: load_float(words, 1),
-        contact_tolerance: load_float(words, 2),
-        recycle_distance: load_float(words, 3),
-        recycle_cosine: load_float(words, 4),
-        match_contacts: load_mark(words, MATCH_PLACE),
-        default_friction: load_coefficient(words, DEFAULT_FRICTION_PLACE),
-        default_restitution: load_coefficient(words, DEFAULT_RESTITUTION_PLACE),
+        step_time: load_float(words, SETTINGS_STEP_TIME),
+        length_unit: load_float(words, SETTINGS_LENGTH_UNIT),
+        contact_tolerance: load_float(words, SETTINGS_CONTACT_TOLERANCE),
+        recycle_distance: load_float(words, SETTINGS_RECYCLE_DISTANCE),
+        recycle_cosine: load_float(words, SETTINGS_RECYCLE_COSINE),
+        match_contacts: load_mark(words, SETTINGS_MATCH_CONTACTS),
+        default_friction: load_coefficient(words, SETTINGS_FRICTION),
+        default_restitution: load_coefficient(words, SETTINGS_RESTITUTION),
     }
 }

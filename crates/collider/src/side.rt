@@ -13,16 +13,16 @@ use math::vec::Vec3;
 
 pub struct Side {
     // The body is there.
-    pub here: bool,
+    pub present: bool,
     // A static body.
-    pub fixed: bool,
+    pub is_static: bool,
     // Collider position − body position.
     pub offset: Vec3,
     // Rotation times centre of mass.
     pub world_com: Vec3,
     pub pose: Pose,
-    pub velocity: Vec3,
-    pub spin: Vec3,
+    pub linear_velocity: Vec3,
+    pub angular_velocity: Vec3,
     pub friction: OptionalCoefficient,
     pub margin: OptionalFloat,
     pub speculative_maximum: OptionalFloat,
@@ -35,19 +35,19 @@ fn present_side(c: ColliderRecord, b: BodyRecord) -> Side
     let pose = b.pose;
     let position = pose.position;
     let rotation = pose.rotation;
-    let velocity = b.velocity;
-    let spin = b.spin;
+    let linear_velocity = b.linear_velocity;
+    let angular_velocity = b.angular_velocity;
     let friction = b.friction;
     let margin = b.margin;
     let speculative_maximum = b.speculative_maximum;
     Side {
-        here: true,
-        fixed: b.fixed,
+        present: true,
+        is_static: b.is_static,
         offset: c.position.sub(position),
-        world_com: rotation.mul_vec3(b.centre),
+        world_com: rotation.mul_vec3(b.center_of_mass),
         pose,
-        velocity,
-        spin,
+        linear_velocity,
+        angular_velocity,
         friction,
         margin,
         speculative_maximum,
@@ -60,13 +60,13 @@ fn absent_side(c: ColliderRecord) -> Side
     ensures { λ r. ⌜ plainSide r ≡ sideOf (plainCollider c) none ⌝ }
 {
     Side {
-        here: false,
-        fixed: false,
+        present: false,
+        is_static: false,
         offset: Vec3::ZERO,
         world_com: Vec3::ZERO,
         pose: Pose::IDENTITY,
-        velocity: Vec3::ZERO,
-        spin: Vec3::ZERO,
+        linear_velocity: Vec3::ZERO,
+        angular_velocity: Vec3::ZERO,
         friction: OptionalCoefficient::Absent,
         margin: OptionalFloat::Absent,
         speculative_maximum: OptionalFloat::Absent,

@@ -47,9 +47,10 @@ pub fn restitution_of(s: Settings, c: ColliderRecord) -> Coefficient
     ensures { λ r. ⌜ plainCoefficient r ≡ restitutionOf (plainSettings s) (plainCollider c) ⌝ }
 {
     let own = c.restitution;
-    let body = OptionalCoefficient::Absent;
-    let default = s.default_restitution;
-    first_given(own, body, default)
+    match own {
+        OptionalCoefficient::Given(given) => given,
+        OptionalCoefficient::Absent => s.default_restitution,
+    }
 }
 
 // The collider's, else the body's, else 0.

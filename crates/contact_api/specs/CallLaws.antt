@@ -11,9 +11,9 @@ use borrow.Author.Tests.{eqb-true, eq-eqb, ne-eqb, lt-ltb, le-leb, lt-leb}
 use Rattle.rules.specs.Limits.{mostContacts}
 use Rattle.rows.specs.Rows.{put}
 use Rattle.rows.specs.Laws.{put-whole}
-use Rattle.words.specs.Words.{vec3At}
+use Rattle.words.specs.Words.{vec3At, markWord}
 use Rattle.manifold_records.specs.Written.{padded, zeros}
-use Rattle.contact_records.specs.Written.{markWord, optionalWords}
+use Rattle.contact_records.specs.Written.{optionalWords}
 use Rattle.math.specs.declared.vec.Vec3.{Vec3}
 use Rattle.contact_types.specs.Refusals.{numberOf}
 use Rattle.contact_types.specs.RefusalLaws.{some-number}
@@ -43,7 +43,8 @@ use Rattle.step.specs.declared.answer.StepAnswer.{StepAnswer}
 use Rattle.step.specs.declared.answer.StepAnswer.the-variants as stepped
 use Rattle.step.specs.declared.answer.StepReport.{StepReport}
 use Rattle.contact_api.specs.Calls.{unlessRefused, doneNumber, requestOf, idNumber, addNumber, edgeWords, edgeNumber, lookUpNumber, reportWords, reportNumber, stepNumber, refusalIn, numbersWords, keptWords, structWords, structNumber, structRow, pruneNumber, LayOutCalled, RemoveCalled, AddCalled, LookUpCalled, StepCalled, PruneCalled, lengthsNumber, LengthsCalled, layoutNumber, LayoutCalled}
-use Rattle.contact_api.specs.Layout.{requestLength, addAnswerLength, lookUpAnswerLength, stepAnswerLength, pruneNormalLength, pruneAnswerLength, lengthsLength, layoutLength, lengthsWords, layoutWords}
+use Rattle.contact_api.specs.Layout.{addAnswerLength, lookUpAnswerLength, stepAnswerLength, pruneNormalLength, pruneAnswerLength, lengthsLength, layoutLength, lengthsWords, layoutWords}
+use Rattle.layout.specs.Request.{requestLength}
 
 -- ---- the number in an answer that is by cases of a refusal's number is that number
 pub number-by : {A : Type 0} (number : A → ℕ) (n : ℕ) (d r : A) (b : Bool) → eqb n 0 ≡ b → number d ≡ 0 → number r ≡ n → number (cond b d r) ≡ n

@@ -28,7 +28,8 @@ use Rattle.step.specs.Step.{Given, Rows, long, stepRefusal, Stepped, plainAnswe
 use Rattle.step.specs.declared.answer.StepAnswer.{StepAnswer}
 use Rattle.contact_api.specs.CallLaws.{number-by, done-number, struct-number, struct-row}
 use Rattle.contact_api.specs.Calls.{unlessRefused, doneNumber, requestOf, idNumber, idRow, addNumber, edgeNumber, edgeRow, lookUpNumber, reportWords, reportNumber, reportRow, stepNumber, refusalIn, keptWords, structNumber, structRow, pruneNumber, LayOutCalled, RemoveCalled, AddCalled, LookUpCalled, StepCalled, PruneCalled}
-use Rattle.contact_api.specs.Layout.{requestLength, addAnswerLength, lookUpAnswerLength, stepAnswerLength, pruneNormalLength, pruneAnswerLength}
+use Rattle.contact_api.specs.Layout.{addAnswerLength, lookUpAnswerLength, stepAnswerLength, pruneNormalLength, pruneAnswerLength}
+use Rattle.layout.specs.Request.{requestLength}
 
 -- a view of what is by cases is by cases
 of-cond : {A B : Type 0} (f : A → B) (b : Bool) (x y : A) → f (cond b x y) ≡ cond b (f x) (f y)

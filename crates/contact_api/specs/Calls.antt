@@ -6,10 +6,11 @@ use mathlib.Core.Bool.{cond, not, _&&_}
 use mathlib.Core.List.{List, [], _∷_, _++_}
 use lib.Dec.{eqb, ltb, leb}
 use lib.ListN.{length}
-use Rattle.rules.specs.Limits.{storedPoints, mostContacts}
-use Rattle.words.specs.Words.{wordAt, floatAt, vec3At}
+use Rattle.layout.specs.Request.{requestBody1, requestBody1Number, requestBody2, requestBody2Number, requestCollider1, requestCollider2, requestContactEvents, requestLength, requestModifyContacts, requestSpeculativeDistance}
+use Rattle.rules.specs.Limits.{mostContacts, storedPoints}
+use Rattle.words.specs.Words.{wordAt, floatAt, vec3At, markWord}
 use Rattle.manifold_records.specs.Written.{padded}
-use Rattle.contact_records.specs.Written.{markWord, optionalWords}
+use Rattle.contact_records.specs.Written.{optionalWords}
 use Rattle.contact_types.specs.Prune as prune
 use Rattle.contact_types.specs.declared.pruning.KeptPoints.{KeptPoints}
 use Rattle.contact_graph.specs.Calls.{layOutRefusal, laidOut, addRefusal, newIdOf, addedWords, idRefusal, removedWords}
@@ -18,7 +19,7 @@ use Rattle.contact_graph.specs.Promises as graph
 use Rattle.contact_graph.specs.declared.call.Request.{Request}
 use Rattle.step.specs.Step as step
 use Rattle.step.specs.Step.{Given, Rows, long, stepRefusal, passOf, rowsOf}
-use Rattle.contact_api.specs.Layout.{requestLength, addAnswerLength, stepAnswerLength, lookUpAnswerLength, pruneNormalLength, pruneAnswerLength, lengthsLength, layoutLength, lengthsWords, layoutWords}
+use Rattle.contact_api.specs.Layout.{addAnswerLength, stepAnswerLength, lookUpAnswerLength, pruneNormalLength, pruneAnswerLength, lengthsLength, layoutLength, lengthsWords, layoutWords}
 
 -- what a row holds at exit: other words where nothing is refused, else those it held
 abbrev pub unlessRefused : ℕ → List ℕ → List ℕ → List ℕ
@@ -38,15 +39,15 @@ pub record LayOutCalled (before : List ℕ) (capacity : ℕ) (after : List ℕ) 
 abbrev pub requestOf : List ℕ → Request
 requestOf w =
     record {
-      collider1 = wordAt w 0;
-      collider2 = wordAt w 1;
-      «has_body1» = wordAt w 2;
-      body1 = wordAt w 3;
-      «has_body2» = wordAt w 4;
-      body2 = wordAt w 5;
-      «contact_events» = wordAt w 6;
-      «modify_contacts» = wordAt w 7;
-      «speculative_distance» = floatAt w 8;
+      collider1 = wordAt w requestCollider1;
+      collider2 = wordAt w requestCollider2;
+      «has_body1» = wordAt w requestBody1;
+      body1 = wordAt w requestBody1Number;
+      «has_body2» = wordAt w requestBody2;
+      body2 = wordAt w requestBody2Number;
+      «contact_events» = wordAt w requestContactEvents;
+      «modify_contacts» = wordAt w requestModifyContacts;
+      «speculative_distance» = floatAt w requestSpeculativeDistance;
     }
 
 -- what an answer says: the refusal's number or 0, and the row lent for the answer

@@ -2,20 +2,23 @@
 -- Definitions only; docs/BUFFERS.md has the same table.
 use Prim.Native.Nat.{ℕ, _+_, _*_}
 use mathlib.Core.List.{List, [], _∷_, _++_}
-use Rattle.rules.specs.Limits as limits
-use Rattle.collider.specs.Layout as collider
-use Rattle.contact_records.specs.Layout as contact
-use Rattle.contact_range.specs.Layout as graph
-use Rattle.proposals.specs.Layout as proposal
-use Rattle.shares.specs.Layout as shares
-use Rattle.status_pass.specs.EventsAndChanges as listing
+use Rattle.layout.specs.Body.{bodiesLength, bodyAngularVelocity, bodyCenterOfMass, bodyFriction, bodyLinearVelocity, bodyMargin, bodyPosition, bodyRotation, bodySize, bodySpeculativeMaximum, bodyStatic, bodySweepRadius}
+use Rattle.layout.specs.Change.{changeSize, changesLength}
+use Rattle.layout.specs.Collider.{colliderBody, colliderFilters, colliderFriction, colliderLower, colliderMargin, colliderMemberships, colliderPosition, colliderRestitution, colliderSensor, colliderSize, colliderUpper, collidersLength}
+use Rattle.layout.specs.Contact.{contactBody1, contactBody2, contactCache, contactCollider1, contactCollider2, contactCountChange, contactEdgeFlags, contactFlags, contactManifolds, contactPairIndex, contactSize, contactSpeculativeDistance}
+use Rattle.layout.specs.Event.{eventSize, eventsLength}
+use Rattle.layout.specs.Graph.{graphCapacity, graphFreed, graphGiven, graphLength, graphList, graphListed}
+use Rattle.layout.specs.Manifold.{manifoldFriction, manifoldNormal, manifoldPoints, manifoldRestitution, manifoldSize, manifoldTangentVelocity}
+use Rattle.layout.specs.Point.{pointAnchor1, pointAnchor2, pointBasePenetration, pointFeatures, pointNormalImpulse, pointNormalSpeed, pointPenetration, pointPosition, pointSize, pointWarmStartNormalImpulse, pointWarmStartTangentImpulse}
+use Rattle.layout.specs.Proposal.{proposalCount, proposalHook, proposalManifolds, proposalSize, proposedManifoldNormal, proposedManifoldPoints, proposedManifoldSize, proposedPointFeatures, proposedPointPenetration, proposedPointSize}
+use Rattle.layout.specs.Prune.{prunePointsLength}
+use Rattle.layout.specs.Request.{requestLength}
+use Rattle.layout.specs.Settings.{settingsContactTolerance, settingsFriction, settingsLength, settingsLengthUnit, settingsMatchContacts, settingsRecycleCosine, settingsRecycleDistance, settingsRestitution, settingsStepTime}
+use Rattle.layout.specs.Shares.{sharesCounts, sharesEntries, sharesLength}
+use Rattle.rules.specs.Limits.{bodies, colliders, mostContacts, mostWorkers, pairManifolds, proposedPoints, storedPoints}
 use Rattle.update_pass.specs.Shared.{bitsLength}
 
 -- ---- rows of the C functions' own
--- a request: colliders 1 and 2, bodies 1 and 2 (mark and number each), the event mark, the modify mark, the speculative distance
-abbrev pub requestLength : ℕ
-requestLength = 9
-
 abbrev pub addAnswerLength : ℕ
 addAnswerLength = 1
 
@@ -28,11 +31,8 @@ lookUpAnswerLength = 10
 abbrev pub pruneNormalLength : ℕ
 pruneNormalLength = 3
 
-abbrev pub prunePointsLength : ℕ
-prunePointsLength = 4 * limits.proposedPoints
-
 abbrev pub pruneAnswerLength : ℕ
-pruneAnswerLength = 1 + limits.storedPoints
+pruneAnswerLength = 1 + storedPoints
 
 abbrev pub lengthsLength : ℕ
 lengthsLength = 10
@@ -43,54 +43,54 @@ layoutLength = 95
 -- ---- settings, colliders, bodies, proposals, shares, graph, bit words, events, changes, distances
 unfoldable pub lengthsWords : ℕ → List ℕ
 lengthsWords capacity =
-    collider.settingsLength ∷ collider.collidersLength ∷ collider.bodiesLength ∷ (capacity * proposal.proposalSize) ∷ shares.sharesLength capacity ∷ graph.graphLength capacity
-    ∷ bitsLength capacity ∷ listing.eventsLength capacity ∷ listing.changesLength capacity ∷ capacity ∷ []
+    settingsLength ∷ collidersLength ∷ bodiesLength ∷ (capacity * proposalSize) ∷ sharesLength capacity ∷ graphLength capacity
+    ∷ bitsLength capacity ∷ eventsLength capacity ∷ changesLength capacity ∷ capacity ∷ []
 
 -- ---- the layout
 abbrev pub limitWords : List ℕ
-limitWords = limits.mostContacts ∷ limits.colliders ∷ limits.bodies ∷ limits.pairManifolds ∷ limits.storedPoints ∷ limits.proposedPoints ∷ shares.mostWorkers ∷ []
+limitWords = mostContacts ∷ colliders ∷ bodies ∷ pairManifolds ∷ storedPoints ∷ proposedPoints ∷ mostWorkers ∷ []
 
 -- capacity, ids given, listed, freed, the list
 abbrev pub graphPlaces : List ℕ
-graphPlaces = 0 ∷ graph.givenPlace ∷ graph.listedPlace ∷ graph.freedPlace ∷ graph.listPlace ∷ contact.contactSize ∷ []
+graphPlaces = graphCapacity ∷ graphGiven ∷ graphListed ∷ graphFreed ∷ graphList ∷ contactSize ∷ []
 
 -- colliders, bodies, place in the list, the edge's marks, the pair's, count change, speculative distance, cache, manifolds
 abbrev pub contactPlaces : List ℕ
 contactPlaces =
-    0 ∷ 1 ∷ contact.body1Place ∷ contact.body2Place ∷ contact.pairIndexPlace ∷ contact.edgePlace ∷ contact.flagsPlace ∷ contact.countChangePlace ∷ contact.speculativePlace ∷ contact.cachePlace
-    ∷ contact.manifoldsPlace ∷ contact.manifoldSize ∷ []
+    contactCollider1 ∷ contactCollider2 ∷ contactBody1 ∷ contactBody2 ∷ contactPairIndex ∷ contactEdgeFlags ∷ contactFlags ∷ contactCountChange ∷ contactSpeculativeDistance ∷ contactCache
+    ∷ contactManifolds ∷ manifoldSize ∷ []
 
 -- normal, friction, restitution, tangent velocity, points
 abbrev pub manifoldPlaces : List ℕ
-manifoldPlaces = 1 ∷ 4 ∷ 5 ∷ 6 ∷ contact.pointsPlace ∷ contact.pointSize ∷ []
+manifoldPlaces = manifoldNormal ∷ manifoldFriction ∷ manifoldRestitution ∷ manifoldTangentVelocity ∷ manifoldPoints ∷ pointSize ∷ []
 
 -- anchors, position, penetration and base, normal impulse and speed, warm start impulses, features
 abbrev pub pointPlaces : List ℕ
 pointPlaces =
-    0 ∷ 3 ∷ 6 ∷ contact.penetrationPlace ∷ contact.basePlace ∷ contact.normalImpulsePlace ∷ contact.normalSpeedPlace ∷ contact.warmNormalPlace ∷ contact.warmTangentPlace ∷ contact.featuresPlace ∷ []
+    pointAnchor1 ∷ pointAnchor2 ∷ pointPosition ∷ pointPenetration ∷ pointBasePenetration ∷ pointNormalImpulse ∷ pointNormalSpeed ∷ pointWarmStartNormalImpulse ∷ pointWarmStartTangentImpulse ∷ pointFeatures ∷ []
 
 -- length; step time, length unit, contact tolerance, recycle distance, squared cosine, match, default friction and restitution
 abbrev pub settingPlaces : List ℕ
-settingPlaces = collider.settingsLength ∷ 0 ∷ 1 ∷ 2 ∷ 3 ∷ 4 ∷ collider.matchPlace ∷ collider.defaultFrictionPlace ∷ collider.defaultRestitutionPlace ∷ []
+settingPlaces =
+    settingsLength ∷ settingsStepTime ∷ settingsLengthUnit ∷ settingsContactTolerance ∷ settingsRecycleDistance ∷ settingsRecycleCosine ∷ settingsMatchContacts ∷ settingsFriction ∷ settingsRestitution ∷ []
 
 abbrev pub colliderPlaces : List ℕ
 colliderPlaces =
-    collider.colliderSize ∷ collider.colliderBodyPlace ∷ collider.lowerPlace ∷ collider.upperPlace ∷ collider.colliderPositionPlace ∷ collider.membershipsPlace ∷ collider.filtersPlace
-    ∷ collider.colliderFrictionPlace ∷ collider.restitutionPlace ∷ collider.colliderMarginPlace ∷ collider.sensorPlace ∷ []
+    colliderSize ∷ colliderBody ∷ colliderLower ∷ colliderUpper ∷ colliderPosition ∷ colliderMemberships ∷ colliderFilters
+    ∷ colliderFriction ∷ colliderRestitution ∷ colliderMargin ∷ colliderSensor ∷ []
 
--- the rotation stands behind the position
 abbrev pub bodyPlaces : List ℕ
 bodyPlaces =
-    collider.bodySize ∷ collider.staticPlace ∷ collider.posePlace ∷ (collider.posePlace + 3) ∷ collider.centrePlace ∷ collider.velocityPlace ∷ collider.spinPlace ∷ collider.bodyFrictionPlace
-    ∷ collider.bodyMarginPlace ∷ collider.speculativePlace ∷ collider.sweepPlace ∷ []
+    bodySize ∷ bodyStatic ∷ bodyPosition ∷ bodyRotation ∷ bodyCenterOfMass ∷ bodyLinearVelocity ∷ bodyAngularVelocity ∷ bodyFriction
+    ∷ bodyMargin ∷ bodySpeculativeMaximum ∷ bodySweepRadius ∷ []
 
 abbrev pub proposalPlaces : List ℕ
 proposalPlaces =
-    proposal.proposalSize ∷ 0 ∷ proposal.countPlace ∷ proposal.manifoldsPlace ∷ proposal.manifoldSize ∷ proposal.normalPlace ∷ proposal.pointsPlace ∷ proposal.pointSize ∷ proposal.penetrationPlace
-    ∷ proposal.featuresPlace ∷ []
+    proposalSize ∷ proposalHook ∷ proposalCount ∷ proposalManifolds ∷ proposedManifoldSize ∷ proposedManifoldNormal ∷ proposedManifoldPoints ∷ proposedPointSize ∷ proposedPointPenetration
+    ∷ proposedPointFeatures ∷ []
 
 abbrev pub otherPlaces : List ℕ
-otherPlaces = shares.countsPlace ∷ shares.entriesPlace ∷ listing.eventSize ∷ listing.changeSize ∷ []
+otherPlaces = sharesCounts ∷ sharesEntries ∷ eventSize ∷ changeSize ∷ []
 
 abbrev pub answerLengths : List ℕ
 answerLengths =

@@ -1,11 +1,11 @@
 // The graph's calls. Each answers 0, or a refusal's number, and then no lent word changes.
 ghost use mathlib.Core.Path.{_≡_};
 ghost use lib.ListN.{length};
-ghost use Rattle.contact_records.specs.Written.{markWord, optionalWords};
+ghost use Rattle.contact_records.specs.Written.{optionalWords};
 ghost use Rattle.contact_graph.specs.LookUp.{bodyOf, edgeValue};
 ghost use Rattle.contact_graph.specs.Promises.{layOutAnswer, removeAnswer};
 ghost use Rattle.contact_api.specs.Calls.{doneNumber, requestOf, edgeWords, LayOutCalled, AddCalled, LookUpCalled, RemoveCalled};
-ghost use Rattle.contact_api.specs.Layout.{requestLength};
+ghost use Rattle.layout.specs.Request.{requestLength};
 use contact_graph::add::AddAnswer;
 use contact_graph::add::add;
 use contact_graph::call::ContactEdge;
@@ -17,12 +17,21 @@ use contact_graph::look_up::LookUpAnswer;
 use contact_graph::look_up::look_up;
 use contact_graph::remove::RemoveAnswer;
 use contact_graph::remove::remove;
+use layout::request::REQUEST_BODY1;
+use layout::request::REQUEST_BODY1_NUMBER;
+use layout::request::REQUEST_BODY2;
+use layout::request::REQUEST_BODY2_NUMBER;
+use layout::request::REQUEST_COLLIDER1;
+use layout::request::REQUEST_COLLIDER2;
+use layout::request::REQUEST_CONTACT_EVENTS;
+use layout::request::REQUEST_LENGTH;
+use layout::request::REQUEST_MODIFY_CONTACTS;
+use layout::request::REQUEST_SPECULATIVE_DISTANCE;
 use words::row::load_float;
 use words::row::load_word;
+use words::row::mark_word;
 use words::row::store_word;
 use words::row::store_words;
-
-pub const REQUEST_LENGTH: usize = 9;
 
 pub const ADD_ANSWER_LENGTH: usize = 1;
 
@@ -49,15 +58,15 @@ fn load_request(words: &[u32]) -> Request
     ensures { λ r. ⌜ r ≡ requestOf (now (words .entry)) ⌝ }
 {
     Request {
-        collider1: load_word(words, 0),
-        collider2: load_word(words, 1),
-        has_body1: load_word(words, 2),
-        body1: load_word(words, 3),
-        has_body2: load_word(words, 4),
-        body2: load_word(words, 5),
-        contact_events: load_word(words, 6),
-        modify_contacts: load_word(words, 7),
-        speculative_distance: load_float(words, 8),
+        collider1: load_word(words, REQUEST_COLLIDER1),
+        collider2: load_word(words, REQUEST_COLLIDER2),
+        has_body1: load_word(words, REQUEST_BODY1),
+        body1: load_word(words, REQUEST_BODY1_NUMBER),
+        has_body2: load_word(words, REQUEST_BODY2),
+        body2: load_word(words, REQUEST_BODY2_NUMBER),
+        contact_events: load_word(words, REQUEST_CONTACT_EVENTS),
+        modify_contacts: load_word(words, REQUEST_MODIFY_CONTACTS),
+        speculative_distance: load_float(words, REQUEST_SPECULATIVE_DISTANCE),
     }
 }
 
@@ -81,12 +90,6 @@ pub extern "C" fn sardinerod_add(graph: &mut [u32], request: &[u32], answer: &mu
     }
 }
 
-fn mark_word(b: bool) -> u32
-    ensures { λ r. ⌜ r ≡ markWord b ⌝ }
-{
-    if b { 1 } else { 0 }
-}
-
 // A body's mark and its number, 0 and 0 where there is none.
 fn body_words(b: OptionalBody) -> [u32; 2]
     ensures { λ r. ⌜ r ≡ optionalWords (bodyOf b) ⌝ }
@@ -97,7 +100,7 @@ fn body_words(b: OptionalBody) -> [u32; 2]
     }
 }
 
-fn edge_words(e: ContactEdge) -> [u32; 10]
+fn edge_words(e: ContactEdge) -> [u32; LOOK_UP_ANSWER_LENGTH]
     ensures { λ r. ⌜ r ≡ edgeWords (edgeValue e) ⌝ }
 {
     let id = e.id;

@@ -20,9 +20,9 @@ fn moved_anchor(a: Side, anchor: Vec3) -> Vec3
 fn normal_speed(a: Side, b: Side, anchor1: Vec3, anchor2: Vec3, normal: Vec3) -> f32
     ensures { λ r. ⌜ r ≡ normalSpeedAt (plainSide a) (plainSide b) anchor1 anchor2 normal ⌝ }
 {
-    let linear = b.velocity.sub(a.velocity);
-    let turn2 = b.spin.cross(anchor2);
-    let turn1 = a.spin.cross(anchor1);
+    let linear = b.linear_velocity.sub(a.linear_velocity);
+    let turn2 = b.angular_velocity.cross(anchor2);
+    let turn1 = a.angular_velocity.cross(anchor1);
     linear.add(turn2).sub(turn1).dot(normal)
 }
 

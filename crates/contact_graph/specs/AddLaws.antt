@@ -11,12 +11,12 @@ use lib.Dec.{T, eqb, ltb}
 use lib.ListN.{length, length-append}
 use Rattle.rows.specs.Rows.{put, Apart}
 use Rattle.rows.specs.Laws.{put-append, put-put, put-comm, put-next}
-use Rattle.words.specs.Words.{floatWord}
+use Rattle.words.specs.Words.{floatWord, markWord}
 use Rattle.contact_types.specs.declared.contact_id.ContactId.{ContactId}
 use Rattle.contact_types.specs.declared.refusal.Refusal.the-variants.{WrongLength, OutOfRange, SameCollider, PairExists, GraphFull}
 use Rattle.manifold_records.specs.Written.{zeros}
-use Rattle.contact_records.specs.New.{newContactWords, new-contact, zeros-add}
-use Rattle.contact_records.specs.Written.{markWord, optionalWords}
+use Rattle.contact_records.specs.NewLaws.{newContactWords, new-contact, zeros-add}
+use Rattle.contact_records.specs.Written.{optionalWords}
 use Rattle.contact_graph.specs.Calls.{bodyFits, bodyWord, optional, requestFits, additionOf, pairStands, addRefusal, newIdOf, addedWords}
 use Rattle.contact_graph.specs.Adding.{AddedNew}
 use Rattle.contact_range.specs.Checked.{Checked}
@@ -27,7 +27,7 @@ use Rattle.contact_range.specs.Recorded.{capacityOf, givenOf, listedCount, free
 use Rattle.contact_graph.specs.declared.add.AddAnswer.the-variants.{Refused}
 use Rattle.contact_graph.specs.declared.add.AddAnswer.the-variants as answers
 use Rattle.contact_range.specs.Range.{isMark, rightLength, inRange}
-use Rattle.manifold_records.specs.Lists.{length-zeros}
+use Rattle.manifold_records.specs.ListLaws.{length-zeros}
 use Rattle.contact_graph.specs.declared.call.Request.{Request}
 
 -- a mark below 2 is 1 where it is read as set, and 0 where it is not

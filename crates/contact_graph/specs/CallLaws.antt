@@ -9,14 +9,14 @@ use lib.ListN.{length}
 use Rattle.rows.specs.Rows.{put}
 use Rattle.contact_types.specs.Refusals.{numberOf}
 use Rattle.contact_types.specs.declared.refusal.Refusal.the-variants.{WrongLength, OutOfRange, NoContact}
-use Rattle.contact_records.specs.Layout.{pairIndexPlace}
+use Rattle.layout.specs.Contact.{contactPairIndex}
 use Rattle.contact_graph.specs.Calls.{idRefusal, placeOf, removedWords}
 use Rattle.contact_range.specs.Checked.{Checked}
 use Rattle.contact_graph.specs.IdLaws.{given-sum}
 use Rattle.contact_graph.specs.Promises.{Removed}
 use Rattle.contact_range.specs.Range.{rightLength, inRange, stands}
 use Rattle.contact_range.specs.RangeLaws.{RightLength, right-length, in-range, holds, shown, Counts, counts, standing-place, standing-below, listed-below, never-given}
-use Rattle.contact_range.specs.RangeSteps.{Counted, ListedGiven, Standing}
+use Rattle.contact_range.specs.RangeStepLaws.{Counted, ListedGiven, Standing}
 use Rattle.contact_range.specs.Recorded.{capacityOf, givenOf, listedCount, freeCount, listedAt, contactAt}
 use Rattle.contact_graph.specs.Removing.{GapOf}
 use Rattle.contact_graph.specs.declared.remove.Gap.{Gap}
@@ -58,7 +58,7 @@ pub record Room (g : List ℕ) (id : ℕ) : Type 0 where
   pub listed : listedCount g ≤ capacityOf g
   pub last : listedAt g (listedCount g - 1) < capacityOf g
   pub spare : freeCount g < capacityOf g
-  pub index : contactAt g (listedAt g (listedCount g - 1)) + pairIndexPlace < length g
+  pub index : contactAt g (listedAt g (listedCount g - 1)) + contactPairIndex < length g
   pub long : 4 + 2 * capacityOf g < length g
 
 pub removal-room : {g : List ℕ} (id : ℕ) → Checked g → stands g id ≡ true → Room g id
@@ -77,7 +77,7 @@ removal-room {g} id c s =
       long = let z = c .right .least in omega (arith, c .right .size);
     }
   where
-    inside : RightLength g → (i : ℕ) → i < capacityOf g → contactAt g i + pairIndexPlace < length g
+    inside : RightLength g → (i : ℕ) → i < capacityOf g → contactAt g i + contactPairIndex < length g
     inside r i h = omega (arith, r .size, room i (capacityOf g) h)
       where
         room : (i n : ℕ) → i < n → i * 523 + 523 ≤ n * 523

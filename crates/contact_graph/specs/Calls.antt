@@ -13,10 +13,10 @@ use Rattle.rules.specs.Numbers.{any}
 use Rattle.rules.specs.Records.{Names, EdgeFlags}
 use Rattle.words.specs.Words.{wordAt}
 use Rattle.manifold_records.specs.Written.{zeros}
-use Rattle.contact_records.specs.Layout as record-place
+use Rattle.layout.specs.Contact.{contactPairIndex}
+use Rattle.layout.specs.Graph.{graphFree, graphGiven, graphLength, graphList, graphListed}
 use Rattle.contact_records.specs.Recorded.{namesAt, edgeAt}
 use Rattle.contact_records.specs.Written.{contactWords}
-use Rattle.contact_range.specs.Layout as place
 use Rattle.contact_range.specs.Recorded.{capacityOf, givenOf, listedCount, freeCount, listedAt, freeAt, contactAt}
 use Rattle.contact_range.specs.Range.{isMark, sameColliders, rightLength, inRange, stands}
 use Rattle.contact_graph.specs.declared.call.Request.{Request}
@@ -26,11 +26,11 @@ use Rattle.contact_graph.specs.declared.call.OptionalBody.the-variants a
 -- ---- lay out
 -- 1: the capacity is not 1 to 256, or the length is not the one for it
 unfoldable pub layOutRefusal : List ℕ → ℕ → ℕ
-layOutRefusal g capacity = cond (ltb 0 capacity && (leb capacity mostContacts && eqb (length g) (place.graphLength capacity))) 0 1
+layOutRefusal g capacity = cond (ltb 0 capacity && (leb capacity mostContacts && eqb (length g) (graphLength capacity))) 0 1
 
 -- the capacity, and 0 in every other word
 unfoldable pub laidOut : ℕ → List ℕ
-laidOut capacity = capacity ∷ zeros (place.graphLength capacity - 1)
+laidOut capacity = capacity ∷ zeros (graphLength capacity - 1)
 
 -- ---- add
 -- an optional body: a mark, and behind a mark of 1 a number below 128
@@ -98,8 +98,8 @@ newIdOf g = cond (eqb (freeCount g) 0) (givenOf g) (freeAt g (freeCount g - 1))
 unfoldable pub addedWords : List ℕ → Request → List ℕ
 addedWords g a =
     put (put (put g (contactAt g (newIdOf g)) (contactWords (listedCount g) (newPair (newIdOf g) (additionOf a))))
-    (place.listPlace + listedCount g) (newIdOf g ∷ []))
-    place.givenPlace (cond (eqb (freeCount g) 0) (givenOf g + 1) (givenOf g) ∷ (listedCount g + 1) ∷ (freeCount g - 1) ∷ [])
+    (graphList + listedCount g) (newIdOf g ∷ []))
+    graphGiven (cond (eqb (freeCount g) 0) (givenOf g + 1) (givenOf g) ∷ (listedCount g + 1) ∷ (freeCount g - 1) ∷ [])
 
 -- ---- look up and remove
 -- 1, 2, 9, in that order
@@ -108,13 +108,13 @@ idRefusal g id = cond (not (rightLength g)) 1 (cond (not (inRange g)) 2 (cond (s
 
 -- the contact's place in the list
 abbrev pub placeOf : List ℕ → ℕ → ℕ
-placeOf g id = wordAt g (contactAt g id + record-place.pairIndexPlace)
+placeOf g id = wordAt g (contactAt g id + contactPairIndex)
 
 -- The last listed contact takes the gap and is told its new place; the id is the one freed last; the two counts.
 -- Where the contact is itself the last, it is written to its own place.
 unfoldable pub removedWords : List ℕ → ℕ → List ℕ
 removedWords g id =
     let last = listedAt g (listedCount g - 1) in
-    put (put (put (put g (place.listPlace + placeOf g id) (last ∷ [])) (contactAt g last + record-place.pairIndexPlace) (placeOf g id ∷ []))
-    (place.freePlace (capacityOf g) + freeCount g) (id ∷ []))
-    place.listedPlace ((listedCount g - 1) ∷ (freeCount g + 1) ∷ [])
+    put (put (put (put g (graphList + placeOf g id) (last ∷ [])) (contactAt g last + contactPairIndex) (placeOf g id ∷ []))
+    (graphFree (capacityOf g) + freeCount g) (id ∷ []))
+    graphListed ((listedCount g - 1) ∷ (freeCount g + 1) ∷ [])

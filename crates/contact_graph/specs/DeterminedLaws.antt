@@ -10,7 +10,7 @@ use lib.ListN.{length}
 use Rattle.rules.specs.Limits.{mostContacts}
 use Rattle.contact_types.specs.RefusalLaws.{same-by, refusalFor, refusal-for, Numbered, answered-by}
 use Rattle.contact_types.specs.declared.refusal.Refusal.the-variants.{WrongLength, OutOfRange, SameCollider, PairExists, GraphFull, NoContact}
-use Rattle.contact_range.specs.Layout.{graphLength}
+use Rattle.layout.specs.Graph.{graphLength}
 use Rattle.contact_range.specs.Range.{rightLength, inRange, stands}
 use Rattle.contact_range.specs.Recorded.{capacityOf, listedCount}
 use Rattle.contact_graph.specs.Calls.{layOutRefusal, laidOut, requestFits, pairStands, addRefusal, newIdOf, addedWords, idRefusal, removedWords}

@@ -19,20 +19,22 @@ use Rattle.rules.specs.Numbers.{any}
 use Rattle.rule_laws.specs.NumberLaws.{any-same}
 use Rattle.rule_laws.specs.Stripped.{strippedPoint, strippedManifold, stripped}
 use Rattle.words.specs.Words.{wordAt}
-use Rattle.manifold_records.specs.Lists.{map-upto-same}
+use Rattle.manifold_records.specs.ListLaws.{map-upto-same}
 use Rattle.manifold_records.specs.Recorded.{pointAt, pointsAt, manifoldAt, manifoldsAt}
-use Rattle.contact_records.specs.Apart.{vec3-same, names-same, edge-same, flags-same, cache-same}
-use Rattle.contact_records.specs.Held.{Same, same-in, word-same, first-same}
-use Rattle.contact_records.specs.Layout as record-place
+use Rattle.contact_records.specs.ApartLaws.{vec3-same, names-same, edge-same, flags-same, cache-same}
+use Rattle.contact_records.specs.HeldLaws.{Same, same-in, word-same, first-same}
+use Rattle.layout.specs.Contact.{contactManifolds, contactSize}
+use Rattle.layout.specs.Graph.{contactPlace}
+use Rattle.layout.specs.Manifold.{manifoldPoints, manifoldSize}
+use Rattle.layout.specs.Point.{pointSize}
 use Rattle.contact_records.specs.Recorded.{intOf, pairAt}
-use Rattle.contact_range.specs.Layout as place
 use Rattle.contact_range.specs.Recorded.{capacityOf, givenOf, listedCount, freeCount, listedAt, freeAt, contactAt, graphOf}
 use Rattle.contact_range.specs.Range.{isMark, optionalFits, stands, isFree, sameColliders, samePair}
 use Rattle.contact_range.specs.RangeLaws.{counts, Fitting, listed-given, listed-index, listed-fits, standing-fits, free-given, free-once, free-not-standing, given-known, pair-once}
-use Rattle.contact_range.specs.RangeShown.{EachInRange, each-in-range}
+use Rattle.contact_range.specs.RangeShownLaws.{EachInRange, each-in-range}
 use Rattle.contact_range.specs.Checked.{Checked}
-use Rattle.contact_graph.specs.Effects.{contact-after, differ, same-or-not}
-use Rattle.contact_graph.specs.AddedGraph.{right-kept, listedPair}
+use Rattle.contact_graph.specs.EffectLaws.{contact-after, differ, same-or-not}
+use Rattle.contact_graph.specs.AddedGraphLaws.{right-kept, listedPair}
 use Rattle.contact_graph.specs.Impulses.{storedPointPlace, ImpulseAt, ImpulsesWritten, SameButImpulses}
 
 -- ---- a place of a record is one contact's, one manifold's, one point's and one word's
@@ -74,10 +76,10 @@ module _ {g h : List ℕ} (c : Checked g) (w : ImpulsesWritten g h) where
   free-at k l = let n = counts (c .range) in ap (λ (m : ℕ). wordAt h (4 + m + k)) capacity-kept ∙ head-kept (4 + capacityOf g + k) (omega arith)
 
   -- ---- a record's words
-  pub record-word : (i o : ℕ) → o < record-place.contactSize
+  pub record-word : (i o : ℕ) → o < contactSize
       → ((m k v : ℕ) → m < 6 → k < 4 → 11 ≤ v → v ≤ 15 → v ≢ 12 → o ≡ storedPointPlace m k + v → ⊥) → wordAt h (contactAt h i + o) ≡ wordAt g (contactAt g i + o)
   record-word i o l n =
-      ap (λ (m : ℕ). wordAt h (place.contactPlace m i + o)) capacity-kept
+      ap (λ (m : ℕ). wordAt h (contactPlace m i + o)) capacity-kept
       ∙ w .rest (contactAt g i + o)
       (λ a. let f = standing-fits (c .range) (a .contact) (a .standing) in
       let few : a .manifold < 6 = omega (arith, a .counted, f .manifolds) in
@@ -86,7 +88,7 @@ module _ {g h : List ℕ} (c : Checked g) (w : ImpulsesWritten g h) where
       (same-offset 523 i (a .contact) o (storedPointPlace (a .manifold) (a .point) + a .word) l (omega (arith, a .most)) (omega (arith, a .place))))
 
   -- what stands before the manifolds, and their number
-  pub first-words : (i o : ℕ) → o ≤ record-place.manifoldsPlace → wordAt h (contactAt h i + o) ≡ wordAt g (contactAt g i + o)
+  pub first-words : (i o : ℕ) → o ≤ contactManifolds → wordAt h (contactAt h i + o) ≡ wordAt g (contactAt g i + o)
   first-words i o l = record-word i o (omega arith) (λ m k v a b p q s e. omega arith)
 
   pub first-run : (i o n : ℕ) → o + n ≤ 37 → Same g (contactAt g i + o) h (contactAt h i + o) n
@@ -102,20 +104,20 @@ module _ {g h : List ℕ} (c : Checked g) (w : ImpulsesWritten g h) where
       λ j. isMark (first-same s tt j) && cond (eqb (first-same s tt j) 1) (ltb (word-same s 1 tt j) bodies) true
 
   -- what stands before a manifold's points
-  pub manifold-words : (i m o : ℕ) → m < 6 → o < record-place.pointsPlace
-      → wordAt h (contactAt h i + record-place.manifoldsPlace + 1 + m * record-place.manifoldSize + o) ≡ wordAt g (contactAt g i + record-place.manifoldsPlace + 1 + m * record-place.manifoldSize + o)
+  pub manifold-words : (i m o : ℕ) → m < 6 → o < manifoldPoints
+      → wordAt h (contactAt h i + contactManifolds + 1 + m * manifoldSize + o) ≡ wordAt g (contactAt g i + contactManifolds + 1 + m * manifoldSize + o)
   manifold-words i m o a b =
       ap (wordAt h) (let e : contactAt h i + 36 + 1 + m * 81 + o ≡ contactAt h i + (37 + m * 81 + o) = omega arith in e)
       ∙ record-word i (37 + m * 81 + o) (omega arith) (λ n k v p q s t u e. let z = same-offset 81 m n o (9 + k * 18 + v) (omega arith) (omega arith) (omega arith) in omega arith)
       ∙ ap (wordAt g) (let e : contactAt g i + (37 + m * 81 + o) ≡ contactAt g i + 36 + 1 + m * 81 + o = omega arith in e)
 
-  pub manifold-run : (i m : ℕ) → m < 6 → Same g (contactAt g i + record-place.manifoldsPlace + 1 + m * record-place.manifoldSize) h (contactAt h i + record-place.manifoldsPlace + 1 + m * record-place.manifoldSize) record-place.pointsPlace
+  pub manifold-run : (i m : ℕ) → m < 6 → Same g (contactAt g i + contactManifolds + 1 + m * manifoldSize) h (contactAt h i + contactManifolds + 1 + m * manifoldSize) manifoldPoints
   manifold-run i m l = record { each = λ o b. manifold-words i m o l b }
 
   -- a point's words but for the impulses
   pub point-word : (i m k u : ℕ) → m < 6 → k < 4 → u < 18 → ((11 ≤ u) → (u ≤ 15) → u ≢ 12 → ⊥)
-      → wordAt h (contactAt h i + record-place.manifoldsPlace + 1 + m * record-place.manifoldSize + record-place.pointsPlace + k * record-place.pointSize + u)
-      ≡ wordAt g (contactAt g i + record-place.manifoldsPlace + 1 + m * record-place.manifoldSize + record-place.pointsPlace + k * record-place.pointSize + u)
+      → wordAt h (contactAt h i + contactManifolds + 1 + m * manifoldSize + manifoldPoints + k * pointSize + u)
+      ≡ wordAt g (contactAt g i + contactManifolds + 1 + m * manifoldSize + manifoldPoints + k * pointSize + u)
   point-word i m k u a b l n =
       ap (wordAt h) (let e : contactAt h i + 36 + 1 + m * 81 + 9 + k * 18 + u ≡ contactAt h i + (storedPointPlace m k + u) = omega arith in e)
       ∙ record-word i (storedPointPlace m k + u) (omega arith)
@@ -146,7 +148,7 @@ module _ {g h : List ℕ} (c : Checked g) (w : ImpulsesWritten g h) where
   isFree-kept i = ap (any (λ k. eqb (freeAt h k) i)) freed-kept ∙ any-same (λ k. eqb (freeAt h k) i) (λ k. eqb (freeAt g k) i) (freeCount g) (λ k l. ap (λ (n : ℕ). eqb n i) (free-at k l))
 
   -- the record of a listed contact
-  pub listed-word : (p o : ℕ) → p < listedCount g → o ≤ record-place.manifoldsPlace → wordAt h (contactAt h (listedAt h p) + o) ≡ wordAt g (contactAt g (listedAt g p) + o)
+  pub listed-word : (p o : ℕ) → p < listedCount g → o ≤ contactManifolds → wordAt h (contactAt h (listedAt h p) + o) ≡ wordAt g (contactAt g (listedAt g p) + o)
   listed-word p o l b = ap (λ (i : ℕ). wordAt h (contactAt h i + o)) (listed-at p l) ∙ first-words (listedAt g p) o b
 
   pub listed-first : (p : ℕ) → p < listedCount g → wordAt h (contactAt h (listedAt h p)) ≡ wordAt g (contactAt g (listedAt g p))
@@ -184,10 +186,10 @@ module _ {g h : List ℕ} (c : Checked g) (w : ImpulsesWritten g h) where
   -- ---- the plain graph
   -- where manifold m of a contact begins, and its point k
   abbrev pub manifoldOf : List ℕ → ℕ → ℕ → ℕ
-  manifoldOf xs i m = contactAt xs i + record-place.manifoldsPlace + 1 + m * record-place.manifoldSize
+  manifoldOf xs i m = contactAt xs i + contactManifolds + 1 + m * manifoldSize
 
   abbrev pub pointOf : List ℕ → ℕ → ℕ → ℕ → ℕ
-  pointOf xs i m k = manifoldOf xs i m + record-place.pointsPlace + k * record-place.pointSize
+  pointOf xs i m k = manifoldOf xs i m + manifoldPoints + k * pointSize
 
   -- a point's words before the impulses
   pub point-run : (i m k : ℕ) → m < 6 → k < 4 → Same g (pointOf g i m k) h (pointOf h i m k) 11
@@ -212,7 +214,7 @@ module _ {g h : List ℕ} (c : Checked g) (w : ImpulsesWritten g h) where
         feature2 = point-word i m k 17 a b (omega arith) (λ p q d. omega arith) j;
       }
 
-  pub points-stripped : (i m n : ℕ) → m < 6 → n ≤ 4 → map strippedPoint (pointsAt h (manifoldOf h i m + record-place.pointsPlace) n) ≡ map strippedPoint (pointsAt g (manifoldOf g i m + record-place.pointsPlace) n)
+  pub points-stripped : (i m n : ℕ) → m < 6 → n ≤ 4 → map strippedPoint (pointsAt h (manifoldOf h i m + manifoldPoints) n) ≡ map strippedPoint (pointsAt g (manifoldOf g i m + manifoldPoints) n)
   unfolding pointsAt
   points-stripped i m n a b =
       map-map strippedPoint (λ k. pointAt h (pointOf h i m k)) (upto n)
@@ -225,7 +227,7 @@ module _ {g h : List ℕ} (c : Checked g) (w : ImpulsesWritten g h) where
       let s = manifold-run i m a in
       λ j. record {
         points =
-            (ap (λ (n : ℕ). map strippedPoint (pointsAt h (manifoldOf h i m + record-place.pointsPlace) n)) (first-same s tt) ∙ points-stripped i m (wordAt g (manifoldOf g i m)) a b) j;
+            (ap (λ (n : ℕ). map strippedPoint (pointsAt h (manifoldOf h i m + manifoldPoints) n)) (first-same s tt) ∙ points-stripped i m (wordAt g (manifoldOf g i m)) a b) j;
         normal = vec3-same (same-in s 1 3 (lit≤ tt)) j;
         friction = ofBits binary32 (word-same s 4 tt j);
         restitution = ofBits binary32 (word-same s 5 tt j);
@@ -233,11 +235,11 @@ module _ {g h : List ℕ} (c : Checked g) (w : ImpulsesWritten g h) where
       }
 
   pub manifolds-stripped : (i : ℕ) → Fitting g (contactAt g i)
-      → map strippedManifold (manifoldsAt h (contactAt h i + record-place.manifoldsPlace)) ≡ map strippedManifold (manifoldsAt g (contactAt g i + record-place.manifoldsPlace))
+      → map strippedManifold (manifoldsAt h (contactAt h i + contactManifolds)) ≡ map strippedManifold (manifoldsAt g (contactAt g i + contactManifolds))
   unfolding manifoldsAt
   manifolds-stripped i f =
-      let n = wordAt g (contactAt g i + record-place.manifoldsPlace) in
-      ap (λ (m : ℕ). map strippedManifold (map (λ k. manifoldAt h (manifoldOf h i k)) (upto m))) (first-words i record-place.manifoldsPlace (omega arith))
+      let n = wordAt g (contactAt g i + contactManifolds) in
+      ap (λ (m : ℕ). map strippedManifold (map (λ k. manifoldAt h (manifoldOf h i k)) (upto m))) (first-words i contactManifolds (omega arith))
       ∙ map-map strippedManifold (λ k. manifoldAt h (manifoldOf h i k)) (upto n)
       ∙ map-upto-same (λ k. strippedManifold (manifoldAt h (manifoldOf h i k))) (λ k. strippedManifold (manifoldAt g (manifoldOf g i k))) n (λ k l. manifold-stripped i k (omega (arith, f .manifolds)) (f .points k l))
       ∙ sym (map-map strippedManifold (λ k. manifoldAt g (manifoldOf g i k)) (upto n))
@@ -274,7 +276,7 @@ module _ {g h : List ℕ} (c : Checked g) (w : ImpulsesWritten g h) where
   impulse-back a =
       let i = a .contact in
       let s : stands g i ≡ true = sym (stands-kept i) ∙ a .standing in
-      let m : a .manifold < wordAt g (contactAt g i + record-place.manifoldsPlace) = omega (arith, a .counted, first-words i record-place.manifoldsPlace (omega arith)) in
+      let m : a .manifold < wordAt g (contactAt g i + contactManifolds) = omega (arith, a .counted, first-words i contactManifolds (omega arith)) in
       let few : a .manifold < 6 = omega (arith, standing-fits (c .range) i s .manifolds) in
       record {
         contact = i;
@@ -287,7 +289,7 @@ module _ {g h : List ℕ} (c : Checked g) (w : ImpulsesWritten g h) where
         least = a .least;
         most = a .most;
         unlike = a .unlike;
-        place = a .place ∙ ap (λ (n : ℕ). place.contactPlace n i + storedPointPlace (a .manifold) (a .point) + a .word) capacity-kept;
+        place = a .place ∙ ap (λ (n : ℕ). contactPlace n i + storedPointPlace (a .manifold) (a .point) + a .word) capacity-kept;
       }
 
   pub impulses-then : {k : List ℕ} → ImpulsesWritten h k → ImpulsesWritten g k

@@ -8,14 +8,16 @@ use lib.ListN.{length}
 use Rattle.rules.specs.Graph.{Graph}
 use Rattle.rule_laws.specs.Stripped.{stripped}
 use Rattle.words.specs.Words.{wordAt}
-use Rattle.contact_records.specs.Layout as record-place
+use Rattle.layout.specs.Contact.{contactManifolds}
+use Rattle.layout.specs.Manifold.{manifoldPoints, manifoldSize}
+use Rattle.layout.specs.Point.{pointNormalImpulse, pointNormalSpeed, pointSize, pointWarmStartTangentImpulse}
 use Rattle.contact_range.specs.Recorded.{contactAt}
 use Rattle.contact_range.specs.Range.{stands}
 
 -- ---- in the words
 -- where point k of manifold m begins in the record of a contact
 abbrev pub storedPointPlace : ℕ → ℕ → ℕ
-storedPointPlace m k = record-place.manifoldsPlace + 1 + m * record-place.manifoldSize + record-place.pointsPlace + k * record-place.pointSize
+storedPointPlace m k = contactManifolds + 1 + m * manifoldSize + manifoldPoints + k * pointSize
 
 -- Word j is an impulse of a stored point of a standing contact: word 11, 13, 14 or 15 of the point
 -- (normal impulse, warm start normal impulse, warm start tangent impulse; 12 is the normal speed).
@@ -25,11 +27,11 @@ pub record ImpulseAt (g : List ℕ) (j : ℕ) : Type 0 where
   pub point : ℕ
   pub word : ℕ
   pub standing : stands g contact ≡ true
-  pub counted : manifold < wordAt g (contactAt g contact + record-place.manifoldsPlace)
-  pub stored : point < wordAt g (contactAt g contact + record-place.manifoldsPlace + 1 + manifold * record-place.manifoldSize)
-  pub least : record-place.normalImpulsePlace ≤ word
-  pub most : word ≤ record-place.warmTangentPlace + 1
-  pub unlike : word ≢ record-place.normalSpeedPlace
+  pub counted : manifold < wordAt g (contactAt g contact + contactManifolds)
+  pub stored : point < wordAt g (contactAt g contact + contactManifolds + 1 + manifold * manifoldSize)
+  pub least : pointNormalImpulse ≤ word
+  pub most : word ≤ pointWarmStartTangentImpulse + 1
+  pub unlike : word ≢ pointNormalSpeed
   pub place : j ≡ contactAt g contact + storedPointPlace manifold point + word
 
 -- h is g with other impulses, or some

@@ -11,12 +11,12 @@ use Rattle.rules.specs.Graph.{emptyGraph}
 use Rattle.rules.specs.Numbers.{every}
 use Rattle.manifold_records.specs.Written.{zeros}
 use Rattle.contact_records.specs.Recorded.{pairAt}
-use Rattle.contact_range.specs.Layout.{graphLength}
+use Rattle.layout.specs.Graph.{graphLength}
 use Rattle.contact_range.specs.Recorded.{capacityOf, givenOf, listedCount, freeCount, freeAt, listedAt, contactAt, graphOf}
 use Rattle.contact_range.specs.Range.{rightLength, countsFit, listedGiven, namesBack, contactsFit, freeGiven, freeOnce, freeApart, givenKnown, pairsOnce, InRange}
 use Rattle.contact_range.specs.RangeLaws.{shown}
 use Rattle.contact_graph.specs.Calls.{laidOut}
-use Rattle.manifold_records.specs.Lists.{length-zeros}
+use Rattle.manifold_records.specs.ListLaws.{length-zeros}
 
 pub zeros-at : (n k : ℕ) → getD (zeros n) k 0 ≡ 0
 unfolding zeros

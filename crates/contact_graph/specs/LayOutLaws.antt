@@ -6,7 +6,7 @@ use mathlib.Core.List.{List, [], _∷_}
 use borrow.Author.Tests.{eq-eqb, ne-eqb, lt-ltb, le-leb, lt-leb}
 use lib.ListN.{length, set}
 use Rattle.manifold_records.specs.Written.{zeros}
-use Rattle.contact_range.specs.Layout.{graphLength}
+use Rattle.layout.specs.Graph.{graphLength}
 use Rattle.contact_types.specs.declared.refusal.Refusal.the-variants.{WrongLength}
 use Rattle.contact_graph.specs.Calls.{layOutRefusal, laidOut}
 use Rattle.contact_graph.specs.Promises.{LaidOut}

@@ -5,7 +5,7 @@ use mathlib.Core.List.{List}
 use mathlib.Core.Option.{Option, none, some}
 use Rattle.rules.specs.Records.{Names, EdgeFlags}
 use Rattle.words.specs.Words.{wordAt}
-use Rattle.contact_records.specs.Layout as record-place
+use Rattle.layout.specs.Contact.{contactEdgeFlags, contactPairIndex}
 use Rattle.contact_records.specs.Recorded.{namesAt, edgeAt}
 use Rattle.contact_range.specs.Recorded.{contactAt}
 use Rattle.contact_graph.specs.declared.call.ContactEdge.{ContactEdge}
@@ -34,7 +34,7 @@ edgeValue e =
 
 -- the edge that a record holds
 unfoldable pub edgeIn : List ℕ → ℕ → ℕ → Edge
-edgeIn g at id = record { names = namesAt g at id; marks = edgeAt g (at + record-place.edgePlace); index = wordAt g (at + record-place.pairIndexPlace) }
+edgeIn g at id = record { names = namesAt g at id; marks = edgeAt g (at + contactEdgeFlags); index = wordAt g (at + contactPairIndex) }
 
 pub record EdgeLoaded (g : List ℕ) (at id : ℕ) (r : ContactEdge) : Type 0 where
   pub edge : edgeValue r ≡ edgeIn g at id

@@ -6,8 +6,11 @@ ghost use mathlib.Core.List.{[], _∷_, _++_};
 ghost use Prim.Native.Nat.{_+_, _-_, _≤_, _<_};
 ghost use lib.ListN.{length};
 ghost use Rattle.rows.specs.Rows.{put};
+ghost use Rattle.layout.specs.Contact.{contactCache, contactSize};
+ghost use Rattle.layout.specs.Graph.{graphGiven, graphList};
+ghost use Rattle.rules.specs.Limits.{mostContacts};
 ghost use Rattle.manifold_records.specs.Written.{zeros};
-ghost use Rattle.contact_records.specs.New.{newContactWords};
+ghost use Rattle.contact_records.specs.NewLaws.{newContactWords};
 ghost use Rattle.contact_graph.specs.Adding.{AddedNew};
 ghost use Rattle.contact_graph.specs.Calls.{bodyFits, bodyWord, requestFits, additionOf, pairStands, newIdOf};
 ghost use Rattle.contact_range.specs.Checked.{Checked};
@@ -16,17 +19,23 @@ ghost use Rattle.contact_range.specs.Range.{sameColliders};
 ghost use Rattle.contact_range.specs.Recorded.{capacityOf, listedCount};
 use crate::call::ContactEdge;
 use crate::call::Request;
-use contact_range::layout::FREED_PLACE;
-use contact_range::layout::GIVEN_PLACE;
-use contact_range::layout::LIST_PLACE;
-use contact_range::layout::LISTED_PLACE;
-use contact_range::layout::contact_at;
-use contact_range::layout::free_at;
-use contact_range::layout::number_at;
+use contact_range::places::contact_at;
+use contact_range::places::free_at;
+use contact_range::places::number_at;
 use contact_range::range::in_range;
 use contact_range::range::right_length;
 use contact_types::contact_id::ContactId;
 use contact_types::refusal::Refusal;
+use layout::contact::CONTACT_CACHE;
+use layout::contact::CONTACT_COLLIDER2;
+use layout::contact::CONTACT_SIZE;
+use layout::graph::GRAPH_CAPACITY;
+use layout::graph::GRAPH_FREED;
+use layout::graph::GRAPH_GIVEN;
+use layout::graph::GRAPH_LIST;
+use layout::graph::GRAPH_LISTED;
+use layout::limits::BODIES;
+use layout::limits::COLLIDERS;
 use math::bits::bits_of;
 use words::row::load_word;
 use words::row::store_word;
@@ -45,7 +54,7 @@ fn body_fits(mark: u32, body: u32) -> bool
         return false;
     }
     if mark == 1 {
-        return body < 128;
+        return body < BODIES;
     }
     true
 }
@@ -54,10 +63,10 @@ fn body_fits(mark: u32, body: u32) -> bool
 fn request_fits(a: Request) -> bool
     ensures { λ r. ⌜ r ≡ requestFits a ⌝ }
 {
-    if 256 <= a.collider1 {
+    if COLLIDERS <= a.collider1 {
         return false;
     }
-    if 256 <= a.collider2 {
+    if COLLIDERS <= a.collider2 {
         return false;
     }
     if !body_fits(a.has_body1, a.body1) {
@@ -97,12 +106,17 @@ fn pair_stands(graph: &[u32], a: u32, b: u32) -> bool
     requires { ⌜ Checked (now graph) ⌝ }
     ensures { λ r. ⌜ r ≡ pairStands (now (graph .entry)) a b ⌝ }
 {
-    let listed = number_at(graph, LISTED_PLACE);
+    let listed = number_at(graph, GRAPH_LISTED);
     let mut p = 0;
     while p < listed {
-        let id = number_at(graph, LIST_PLACE + p);
+        let id = number_at(graph, GRAPH_LIST + p);
         let at = contact_at(graph, id);
-        if same_colliders(a, b, load_word(graph, at), load_word(graph, at + 1)) {
+        if same_colliders(
+            a,
+            b,
+            load_word(graph, at),
+            load_word(graph, at + CONTACT_COLLIDER2),
+        ) {
             return true;
         }
         p += 1;
@@ -115,9 +129,9 @@ fn new_id(graph: &[u32]) -> u32
     requires { ⌜ Checked (now graph) ⌝ }
     ensures { λ r. ⌜ r ≡ newIdOf (now (graph .entry)) ⌝ }
 {
-    let freed = number_at(graph, FREED_PLACE);
+    let freed = number_at(graph, GRAPH_FREED);
     if freed == 0 {
-        return load_word(graph, GIVEN_PLACE);
+        return load_word(graph, GRAPH_GIVEN);
     }
     free_at(graph, freed - 1) as u32
 }
@@ -130,7 +144,7 @@ fn body_word(mark: u32, body: u32) -> u32
 }
 
 // The first words of the new contact's record; all the others are 0.
-fn new_words(a: Request, index: u32) -> [u32; 20]
+fn new_words(a: Request, index: u32) -> [u32; CONTACT_CACHE]
     requires { ⌜ requestFits a ≡ true ⌝ }
     ensures { λ r. ⌜ r ≡ newContactWords index (additionOf a) ⌝ }
 {
@@ -163,10 +177,10 @@ fn new_words(a: Request, index: u32) -> [u32; 20]
 
 // The whole record, as `ContactPair::new` has it but for what the request carries.
 fn store_new(graph: &mut [u32], at: usize, a: Request, index: u32)
-    requires { ⌜ (requestFits a ≡ true) × (at + 523 ≤ length (now graph)) ⌝ }
-    ensures { λ _. ⌜ now (graph .exit) ≡ put (now (graph .entry)) at (newContactWords index (additionOf a) ++ zeros 503) ⌝ }
+    requires { ⌜ (requestFits a ≡ true) × (at + contactSize ≤ length (now graph)) ⌝ }
+    ensures { λ _. ⌜ now (graph .exit) ≡ put (now (graph .entry)) at (newContactWords index (additionOf a) ++ zeros (contactSize - contactCache)) ⌝ }
 {
-    let blank = [0u32; 523];
+    let blank = [0u32; CONTACT_SIZE];
     let head = new_words(a, index);
     store_words(graph, at, &blank);
     store_words(graph, at, &head);
@@ -174,16 +188,16 @@ fn store_new(graph: &mut [u32], at: usize, a: Request, index: u32)
 
 // The ids given, the pairs listed and the ids free, side by side.
 fn store_three(graph: &mut [u32], given: u32, listed: u32, freed: u32)
-    requires { ⌜ 4 ≤ length (now graph) ⌝ }
-    ensures { λ _. ⌜ now (graph .exit) ≡ put (now (graph .entry)) 1 (given ∷ listed ∷ freed ∷ []) ⌝ }
+    requires { ⌜ graphList ≤ length (now graph) ⌝ }
+    ensures { λ _. ⌜ now (graph .exit) ≡ put (now (graph .entry)) graphGiven (given ∷ listed ∷ freed ∷ []) ⌝ }
 {
     let counts = [given, listed, freed];
-    store_words(graph, GIVEN_PLACE, &counts);
+    store_words(graph, GRAPH_GIVEN, &counts);
 }
 
 // The ids given, once one more is needed: where an id is free, none is given.
 fn next_given(given: u32, freed: u32) -> u32
-    requires { ⌜ given ≤ 256 ⌝ }
+    requires { ⌜ given ≤ mostContacts ⌝ }
     ensures { λ r. ⌜ r ≡ cond (eqb freed 0) (given + 1) given ⌝ }
 {
     if freed == 0 { given + 1 } else { given }
@@ -203,15 +217,15 @@ fn add_new(graph: &mut [u32], a: Request) -> ContactId
 {
     let mut edge = ContactEdge::new(a.collider1, a.collider2);
     let id = new_id(graph);
-    let given = load_word(graph, GIVEN_PLACE);
-    let listed = load_word(graph, LISTED_PLACE);
-    let freed = load_word(graph, FREED_PLACE);
+    let given = load_word(graph, GRAPH_GIVEN);
+    let listed = load_word(graph, GRAPH_LISTED);
+    let freed = load_word(graph, GRAPH_FREED);
     let at = contact_at(graph, id as usize);
     let new = ContactId(id);
     edge.id = new;
     edge.pair_index = listed;
     store_new(graph, at, a, edge.pair_index);
-    store_word(graph, LIST_PLACE + listed as usize, id);
+    store_word(graph, GRAPH_LIST + listed as usize, id);
     let now_given = next_given(given, freed);
     let now_freed = next_freed(freed);
     store_three(graph, now_given, listed + 1, now_freed);
@@ -233,7 +247,7 @@ pub fn add(graph: &mut [u32], a: Request) -> AddAnswer
     if a.collider1 == a.collider2 {
         return AddAnswer::Refused(Refusal::SameCollider);
     }
-    let full = number_at(graph, LISTED_PLACE) == number_at(graph, 0);
+    let full = number_at(graph, GRAPH_LISTED) == number_at(graph, GRAPH_CAPACITY);
     if pair_stands(graph, a.collider1, a.collider2) {
         return AddAnswer::Refused(Refusal::PairExists);
     }

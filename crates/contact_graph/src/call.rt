@@ -3,10 +3,10 @@ ghost use mathlib.Core.Path.{_≡_};
 ghost use Rattle.contact_graph.specs.Calls.{newEdge};
 ghost use Rattle.contact_range.specs.Range.{stands};
 ghost use Rattle.contact_range.specs.Checked.{Checked};
-use contact_range::layout::GIVEN_PLACE;
-use contact_range::layout::number_at;
+use contact_range::places::number_at;
 use contact_range::range::is_standing;
 use contact_types::contact_id::ContactId;
+use layout::graph::GRAPH_GIVEN;
 
 // What an addition carries. Marks are numbers, so that one that is neither 0 nor 1 can be refused.
 pub struct Request {
@@ -62,7 +62,7 @@ pub fn has_contact(graph: &[u32], id: u32) -> bool
     requires { ⌜ Checked (now graph) ⌝ }
     ensures { λ r. ⌜ r ≡ stands (now (graph .entry)) id ⌝ }
 {
-    let given = number_at(graph, GIVEN_PLACE);
+    let given = number_at(graph, GRAPH_GIVEN);
     if given <= id as usize {
         return false;
     }

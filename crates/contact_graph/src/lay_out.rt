@@ -3,11 +3,14 @@ ghost use mathlib.Core.Path.{_≡_};
 ghost use Prim.Native.Nat.{_≤_};
 ghost use lib.ListN.{length};
 ghost use Rattle.manifold_records.specs.Written.{zeros};
-ghost use Rattle.contact_range.specs.Layout.{graphLength};
+ghost use Rattle.layout.specs.Graph.{graphLength};
+ghost use Rattle.rules.specs.Limits.{mostContacts};
 ghost use Rattle.contact_graph.specs.Promises.{LaidOut};
-use contact_range::layout::CONTACT_SIZE;
-use contact_range::layout::MOST_CONTACTS;
 use contact_types::refusal::Refusal;
+use layout::contact::CONTACT_SIZE;
+use layout::graph::GRAPH_CAPACITY;
+use layout::graph::GRAPH_LIST;
+use layout::limits::MOST_CONTACTS;
 
 pub enum LayOutAnswer {
     Done,
@@ -16,10 +19,10 @@ pub enum LayOutAnswer {
 
 // How many words a graph of that capacity has.
 pub fn graph_length(capacity: usize) -> usize
-    requires { ⌜ capacity ≤ 256 ⌝ }
+    requires { ⌜ capacity ≤ mostContacts ⌝ }
     ensures { λ r. ⌜ r ≡ graphLength capacity ⌝ }
 {
-    4 + 2 * capacity + capacity * CONTACT_SIZE
+    GRAPH_LIST + 2 * capacity + capacity * CONTACT_SIZE
 }
 
 // Every word 0.
@@ -46,6 +49,6 @@ pub fn lay_out(graph: &mut [u32], capacity: u32) -> LayOutAnswer
         return LayOutAnswer::Refused(Refusal::WrongLength);
     }
     clear(graph);
-    graph[0] = capacity;
+    graph[GRAPH_CAPACITY] = capacity;
     LayOutAnswer::Done
 }

@@ -5,6 +5,7 @@ ghost use lib.ListN.{length};
 ghost use lib.Dec.{eqb};
 ghost use Prim.Native.Nat.{_+_, _≤_, _<_};
 ghost use Rattle.words.specs.Words.{wordAt};
+ghost use Rattle.layout.specs.Contact.{contactSize};
 ghost use Rattle.contact_records.specs.Recorded.{optionalAt};
 ghost use Rattle.contact_range.specs.Checked.{Checked};
 ghost use Rattle.contact_graph.specs.LookUp.{bodyOf, EdgeLoaded};
@@ -13,15 +14,16 @@ ghost use Rattle.contact_range.specs.Range.{stands};
 use crate::call::ContactEdge;
 use crate::call::OptionalBody;
 use crate::call::has_contact;
-use contact_range::layout::BODY1_PLACE;
-use contact_range::layout::BODY2_PLACE;
-use contact_range::layout::EDGE_PLACE;
-use contact_range::layout::PAIR_INDEX_PLACE;
-use contact_range::layout::contact_at;
+use contact_range::places::contact_at;
 use contact_range::range::in_range;
 use contact_range::range::right_length;
 use contact_types::contact_id::ContactId;
 use contact_types::refusal::Refusal;
+use layout::contact::CONTACT_BODY1;
+use layout::contact::CONTACT_BODY2;
+use layout::contact::CONTACT_COLLIDER2;
+use layout::contact::CONTACT_EDGE_FLAGS;
+use layout::contact::CONTACT_PAIR_INDEX;
 use words::row::load_word;
 
 pub enum LookUpAnswer {
@@ -49,18 +51,18 @@ fn load_mark(graph: &[u32], at: usize) -> bool
 
 // The edge of a contact whose record begins at that place.
 fn load_edge(graph: &[u32], at: usize, id: u32) -> ContactEdge
-    requires { ⌜ at + 523 ≤ length (now graph) ⌝ }
+    requires { ⌜ at + contactSize ≤ length (now graph) ⌝ }
     ensures { λ r. ⌜ EdgeLoaded (now (graph .entry)) at id r ⌝ }
 {
     ContactEdge {
         id: ContactId(id),
         collider1: load_word(graph, at),
-        collider2: load_word(graph, at + 1),
-        body1: load_body(graph, at + BODY1_PLACE),
-        body2: load_body(graph, at + BODY2_PLACE),
-        pair_index: load_word(graph, at + PAIR_INDEX_PLACE),
-        touching: load_mark(graph, at + EDGE_PLACE),
-        contact_events: load_mark(graph, at + EDGE_PLACE + 1),
+        collider2: load_word(graph, at + CONTACT_COLLIDER2),
+        body1: load_body(graph, at + CONTACT_BODY1),
+        body2: load_body(graph, at + CONTACT_BODY2),
+        pair_index: load_word(graph, at + CONTACT_PAIR_INDEX),
+        touching: load_mark(graph, at + CONTACT_EDGE_FLAGS),
+        contact_events: load_mark(graph, at + CONTACT_EDGE_FLAGS + 1),
     }
 }
 

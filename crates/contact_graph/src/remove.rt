@@ -11,15 +11,16 @@ ghost use Rattle.contact_range.specs.Checked.{Checked};
 ghost use Rattle.contact_graph.specs.Promises.{Removed};
 ghost use Rattle.contact_range.specs.Range.{stands};
 use crate::call::has_contact;
-use contact_range::layout::FREED_PLACE;
-use contact_range::layout::LIST_PLACE;
-use contact_range::layout::LISTED_PLACE;
-use contact_range::layout::PAIR_INDEX_PLACE;
-use contact_range::layout::contact_at;
-use contact_range::layout::number_at;
+use contact_range::places::contact_at;
+use contact_range::places::number_at;
 use contact_range::range::in_range;
 use contact_range::range::right_length;
 use contact_types::refusal::Refusal;
+use layout::contact::CONTACT_PAIR_INDEX;
+use layout::graph::GRAPH_CAPACITY;
+use layout::graph::GRAPH_FREED;
+use layout::graph::GRAPH_LIST;
+use layout::graph::GRAPH_LISTED;
 use words::row::load_word;
 use words::row::store_word;
 
@@ -40,15 +41,15 @@ fn gap_of(graph: &[u32], id: u32) -> Gap
     requires { ⌜ Checked (now graph) × (stands (now graph) id ≡ true) ⌝ }
     ensures { λ r. ⌜ GapOf (now (graph .entry)) id r ⌝ }
 {
-    let listed = number_at(graph, LISTED_PLACE);
+    let listed = number_at(graph, GRAPH_LISTED);
     let at = contact_at(graph, id as usize);
-    let place = load_word(graph, at + PAIR_INDEX_PLACE);
-    let last = load_word(graph, LIST_PLACE + (listed - 1));
+    let place = load_word(graph, at + CONTACT_PAIR_INDEX);
+    let last = load_word(graph, GRAPH_LIST + (listed - 1));
     let moved = contact_at(graph, last as usize);
     Gap {
-        list_at: LIST_PLACE + place as usize,
+        list_at: GRAPH_LIST + place as usize,
         last,
-        index_at: moved + PAIR_INDEX_PLACE,
+        index_at: moved + CONTACT_PAIR_INDEX,
         place,
     }
 }
@@ -58,8 +59,8 @@ fn store_counts(graph: &mut [u32], listed: u32, freed: u32)
     requires { ⌜ 4 ≤ length (now graph) ⌝ }
     ensures { λ _. ⌜ now (graph .exit) ≡ put (now (graph .entry)) 2 (listed ∷ freed ∷ []) ⌝ }
 {
-    store_word(graph, LISTED_PLACE, listed);
-    store_word(graph, FREED_PLACE, freed);
+    store_word(graph, GRAPH_LISTED, listed);
+    store_word(graph, GRAPH_FREED, freed);
 }
 
 fn close_gap(graph: &mut [u32], gap: Gap)
@@ -78,11 +79,11 @@ pub fn remove_standing(graph: &mut [u32], id: u32)
     ensures { λ _. ⌜ now (graph .exit) ≡ removedWords (now (graph .entry)) id ⌝ }
 {
     let gap = gap_of(graph, id);
-    let capacity = number_at(graph, 0);
-    let listed = load_word(graph, LISTED_PLACE);
-    let freed = load_word(graph, FREED_PLACE);
+    let capacity = number_at(graph, GRAPH_CAPACITY);
+    let listed = load_word(graph, GRAPH_LISTED);
+    let freed = load_word(graph, GRAPH_FREED);
     close_gap(graph, gap);
-    store_word(graph, LIST_PLACE + capacity + freed as usize, id);
+    store_word(graph, GRAPH_LIST + capacity + freed as usize, id);
     store_counts(graph, listed - 1, freed + 1);
 }
 

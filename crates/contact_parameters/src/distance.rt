@@ -29,9 +29,10 @@ fn clamped_velocity(s: Settings, a: Side, max: f32) -> Vec3
     ensures { λ r. ⌜ r ≡ clampedVelocity (plainSettings s) (plainSide a) max ⌝ }
 {
     if max < LARGEST {
-        return a.velocity.clamp_length_max(max * (1.0 / s.step_time));
+        return a.linear_velocity
+            .clamp_length_max(max * (1.0 / s.step_time));
     }
-    a.velocity
+    a.linear_velocity
 }
 
 // How far the bodies are expected to move toward each other in the step.

@@ -40,7 +40,7 @@ fn tolerance_for(s: Settings, touching: bool) -> f32
 fn sweep(a: Side) -> f32
     ensures { λ r. ⌜ r ≡ radius (plainSide a) ⌝ }
 {
-    if a.fixed { 0.0 } else { a.sweep_radius }
+    if a.is_static { 0.0 } else { a.sweep_radius }
 }
 
 fn least_squared_dot(a: Side, b: Side, k: ContactRecyclingCache) -> f32

@@ -33,7 +33,7 @@ pub fn cache_of(a: Side, b: Side) -> ContactRecyclingCache
 pub fn is_enabled(c1: ColliderRecord, c2: ColliderRecord, a: Side, b: Side) -> bool
     ensures { λ r. ⌜ r ≡ enabled (plainCollider c1) (plainCollider c2) (plainSide a) (plainSide b) ⌝ }
 {
-    (a.here & b.here) & (!c1.sensor & !c2.sensor)
+    (a.present & b.present) & (!c1.sensor & !c2.sensor)
 }
 
 // `touching`, `generate_constraints`, `static1` and `static2` are overwritten; the started and stopped marks are set, never cleared; the rest stay.

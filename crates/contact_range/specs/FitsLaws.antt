@@ -11,19 +11,20 @@ use Rattle.rules.specs.Limits.{storedPoints, pairManifolds, colliders, bodies}
 use Rattle.rules.specs.Numbers.{every}
 use Rattle.rule_laws.specs.NumberLaws.{every-same}
 use Rattle.words.specs.Words.{wordAt}
-use Rattle.contact_records.specs.Layout as record-place
+use Rattle.layout.specs.Contact.{contactCache, contactEdgeFlags, contactManifolds, contactPairIndex, contactSize}
+use Rattle.layout.specs.Manifold.{manifoldSize}
 use Rattle.contact_range.specs.Range.{isMark, optionalFits, namesFit, marksFit, manifoldsFit, contactFits}
 
-module _ (g : List ℕ) (a : ℕ) (h : List ℕ) (b : ℕ) (same : (o : ℕ) → o < record-place.contactSize → o ≢ record-place.pairIndexPlace → wordAt h (b + o) ≡ wordAt g (a + o)) where
+module _ (g : List ℕ) (a : ℕ) (h : List ℕ) (b : ℕ) (same : (o : ℕ) → o < contactSize → o ≢ contactPairIndex → wordAt h (b + o) ≡ wordAt g (a + o)) where
   -- a word further on
-  at : (n k : ℕ) → n + k < record-place.contactSize → n + k ≢ record-place.pairIndexPlace → wordAt h (b + n + k) ≡ wordAt g (a + n + k)
+  at : (n k : ℕ) → n + k < contactSize → n + k ≢ contactPairIndex → wordAt h (b + n + k) ≡ wordAt g (a + n + k)
   at n k l d =
       ap (wordAt h) (let e : b + n + k ≡ b + (n + k) = omega arith in e) ∙ same (n + k) l d ∙ ap (wordAt g) (let e : a + (n + k) ≡ a + n + k = omega arith in e)
 
   first-word : wordAt h b ≡ wordAt g a
   first-word = ap (wordAt h) (let e : b ≡ b + 0 = omega arith in e) ∙ same 0 (omega arith) (omega arith) ∙ ap (wordAt g) (let e : a + 0 ≡ a = omega arith in e)
 
-  optional-same : (limit n : ℕ) → n + 1 < record-place.pairIndexPlace → optionalFits limit h (b + n) ≡ optionalFits limit g (a + n)
+  optional-same : (limit n : ℕ) → n + 1 < contactPairIndex → optionalFits limit h (b + n) ≡ optionalFits limit g (a + n)
   optional-same limit n l =
       ap (λ (w : ℕ). isMark w && cond (eqb w 1) (ltb (wordAt h (b + n + 1)) limit) true) (same n (omega arith) (omega arith))
       ∙ ap (λ (w : ℕ). isMark (wordAt g (a + n)) && cond (eqb (wordAt g (a + n)) 1) (ltb w limit) true) (at n 1 (omega arith) (omega arith))
@@ -39,12 +40,12 @@ module _ (g : List ℕ) (a : ℕ) (h : List ℕ) (b : ℕ) (same : (o : ℕ) →
   marks-same : marksFit h b ≡ marksFit g a
   unfolding marksFit
   marks-same =
-      ap (λ (t : Bool). t && isMark (wordAt h (b + record-place.cachePlace)))
-      (every-same (λ k. isMark (wordAt h (b + record-place.edgePlace + k))) (λ k. isMark (wordAt g (a + record-place.edgePlace + k))) 11 (λ k l. ap isMark (at record-place.edgePlace k (omega arith) (omega arith))))
-      ∙ ap (λ (w : ℕ). every (λ k. isMark (wordAt g (a + record-place.edgePlace + k))) 11 && isMark w) (same record-place.cachePlace (omega arith) (omega arith))
+      ap (λ (t : Bool). t && isMark (wordAt h (b + contactCache)))
+      (every-same (λ k. isMark (wordAt h (b + contactEdgeFlags + k))) (λ k. isMark (wordAt g (a + contactEdgeFlags + k))) 11 (λ k l. ap isMark (at contactEdgeFlags k (omega arith) (omega arith))))
+      ∙ ap (λ (w : ℕ). every (λ k. isMark (wordAt g (a + contactEdgeFlags + k))) 11 && isMark w) (same contactCache (omega arith) (omega arith))
 
   abbrev counts : List ℕ → ℕ → ℕ → Bool
-  counts xs from n = every (λ k. leb (wordAt xs (from + record-place.manifoldsPlace + 1 + k * record-place.manifoldSize)) storedPoints) n
+  counts xs from n = every (λ k. leb (wordAt xs (from + contactManifolds + 1 + k * manifoldSize)) storedPoints) n
 
   counted : (n : ℕ) (t : Bool) → leb n pairManifolds ≡ t → t && counts h b n ≡ t && counts g a n
   counted n false e = refl
@@ -58,8 +59,8 @@ module _ (g : List ℕ) (a : ℕ) (h : List ℕ) (b : ℕ) (same : (o : ℕ) →
   manifolds-same : manifoldsFit h b ≡ manifoldsFit g a
   unfolding manifoldsFit
   manifolds-same =
-      ap (λ (n : ℕ). leb n pairManifolds && counts h b n) (same record-place.manifoldsPlace (omega arith) (omega arith))
-      ∙ counted (wordAt g (a + record-place.manifoldsPlace)) (leb (wordAt g (a + record-place.manifoldsPlace)) pairManifolds) refl
+      ap (λ (n : ℕ). leb n pairManifolds && counts h b n) (same contactManifolds (omega arith) (omega arith))
+      ∙ counted (wordAt g (a + contactManifolds)) (leb (wordAt g (a + contactManifolds)) pairManifolds) refl
 
   pub fits-same : contactFits h b ≡ contactFits g a
   unfolding contactFits

@@ -1,9 +1,8 @@
-pub mod Layout
 pub mod Recorded
 pub mod Range
-pub mod Pigeonhole
+pub mod PigeonholeLaws
 pub mod RangeLaws
-pub mod RangeShown
-pub mod RangeSteps
+pub mod RangeShownLaws
+pub mod RangeStepLaws
 pub mod Checked
 pub mod FitsLaws

@@ -5,16 +5,17 @@ use mathlib.Core.Bool.{Bool, true, cond, not, _&&_, _||_}
 use mathlib.Core.List.{List}
 use lib.Dec.{T, eqb, ltb, leb}
 use lib.ListN.{length}
-use Rattle.rules.specs.Limits.{storedPoints, pairManifolds, colliders, bodies, mostContacts}
+use Rattle.layout.specs.Contact.{contactBody1, contactBody2, contactCache, contactEdgeFlags, contactManifolds, contactPairIndex, marksSize}
+use Rattle.layout.specs.Graph.{graphLength}
+use Rattle.layout.specs.Manifold.{manifoldSize}
+use Rattle.rules.specs.Limits.{bodies, colliders, mostContacts, pairManifolds, storedPoints}
 use Rattle.rules.specs.Numbers.{every, any}
 use Rattle.words.specs.Words.{wordAt}
-use Rattle.contact_records.specs.Layout as record-place
-use Rattle.contact_range.specs.Layout as place
 use Rattle.contact_range.specs.Recorded.{capacityOf, givenOf, listedCount, freeCount, listedAt, freeAt, contactAt}
 
 -- refusal 1: the capacity is 1 to 256, and the length is the one for it
 unfoldable pub rightLength : List ℕ → Bool
-rightLength g = ltb 0 (capacityOf g) && (leb (capacityOf g) mostContacts && eqb (length g) (place.graphLength (capacityOf g)))
+rightLength g = ltb 0 (capacityOf g) && (leb (capacityOf g) mostContacts && eqb (length g) (graphLength (capacityOf g)))
 
 -- ---- one contact's record, from that place
 -- a mark is 0 or 1
@@ -28,17 +29,17 @@ optionalFits limit g at = isMark (wordAt g at) && cond (eqb (wordAt g at) 1) (lt
 unfoldable pub namesFit : List ℕ → ℕ → Bool
 namesFit g at =
     (ltb (wordAt g at) colliders && ltb (wordAt g (at + 1)) colliders)
-    && (optionalFits bodies g (at + record-place.body1Place) && optionalFits bodies g (at + record-place.body2Place))
+    && (optionalFits bodies g (at + contactBody1) && optionalFits bodies g (at + contactBody2))
 
 -- the edge's two marks and the pair's nine, and the cache's
 unfoldable pub marksFit : List ℕ → ℕ → Bool
-marksFit g at = every (λ k. isMark (wordAt g (at + record-place.edgePlace + k))) 11 && isMark (wordAt g (at + record-place.cachePlace))
+marksFit g at = every (λ k. isMark (wordAt g (at + contactEdgeFlags + k))) marksSize && isMark (wordAt g (at + contactCache))
 
 -- at most 6 manifolds, and at most 4 points in each that is counted
 unfoldable pub manifoldsFit : List ℕ → ℕ → Bool
 manifoldsFit g at =
-    leb (wordAt g (at + record-place.manifoldsPlace)) pairManifolds
-    && every (λ k. leb (wordAt g (at + record-place.manifoldsPlace + 1 + k * record-place.manifoldSize)) storedPoints) (wordAt g (at + record-place.manifoldsPlace))
+    leb (wordAt g (at + contactManifolds)) pairManifolds
+    && every (λ k. leb (wordAt g (at + contactManifolds + 1 + k * manifoldSize)) storedPoints) (wordAt g (at + contactManifolds))
 
 unfoldable pub contactFits : List ℕ → ℕ → Bool
 contactFits g at = namesFit g at && (marksFit g at && manifoldsFit g at)
@@ -54,7 +55,7 @@ listedGiven g = every (λ p. ltb (listedAt g p) (givenOf g)) (listedCount g)
 
 -- a list entry and its contact name each other
 unfoldable pub namesBack : List ℕ → Bool
-namesBack g = every (λ p. eqb (wordAt g (contactAt g (listedAt g p) + record-place.pairIndexPlace)) p) (listedCount g)
+namesBack g = every (λ p. eqb (wordAt g (contactAt g (listedAt g p) + contactPairIndex)) p) (listedCount g)
 
 -- the record of each listed contact
 unfoldable pub contactsFit : List ℕ → Bool

@@ -12,8 +12,9 @@ use Rattle.rules.specs.Limits.{storedPoints, pairManifolds, colliders, bodies, 
 use Rattle.rules.specs.Numbers.{every}
 use Rattle.rule_laws.specs.NumberLaws.{every-at, any-at, any-found}
 use Rattle.words.specs.Words.{wordAt}
-use Rattle.contact_records.specs.Layout as record-place
-use Rattle.contact_range.specs.Layout as place
+use Rattle.layout.specs.Contact.{contactBody1, contactBody2, contactCache, contactEdgeFlags, contactManifolds, contactPairIndex, contactSize}
+use Rattle.layout.specs.Graph.{graphLength}
+use Rattle.layout.specs.Manifold.{manifoldSize}
 use Rattle.contact_range.specs.Recorded.{capacityOf, givenOf, listedCount, freeCount, listedAt, freeAt, contactAt}
 use Rattle.contact_range.specs.Range.{rightLength, optionalFits, namesFit, marksFit, manifoldsFit, contactFits, countsFit, listedGiven, namesBack, contactsFit, freeGiven, freeOnce, stands, isFree, freeApart, givenKnown, samePair, pairsOnce, InRange, inRange}
 
@@ -37,24 +38,24 @@ rest-of false b e = absurd (true≢false (sym e))
 pub record RightLength (g : List ℕ) : Type 0 where
   pub least : 0 < capacityOf g
   pub most : capacityOf g ≤ mostContacts
-  pub size : length g ≡ place.graphLength (capacityOf g)
+  pub size : length g ≡ graphLength (capacityOf g)
 
 pub right-length : {g : List ℕ} → rightLength g ≡ true → RightLength g
 unfolding rightLength
 right-length {g} e =
     let a = ltb 0 (capacityOf g) in
     let b = leb (capacityOf g) mostContacts in
-    let c = eqb (length g) (place.graphLength (capacityOf g)) in
+    let c = eqb (length g) (graphLength (capacityOf g)) in
     record {
       least = ltb-true 0 (capacityOf g) (first-of a (b && c) e);
       most = leb-true (capacityOf g) mostContacts (first-of b c (rest-of a (b && c) e));
-      size = eqb-true (length g) (place.graphLength (capacityOf g)) (rest-of b c (rest-of a (b && c) e));
+      size = eqb-true (length g) (graphLength (capacityOf g)) (rest-of b c (rest-of a (b && c) e));
     }
 
 -- the record of a contact begins at r, and lies in the graph
 pub record RecordAt (g : List ℕ) (id r : ℕ) : Type 0 where
   pub place : r ≡ contactAt g id
-  pub room : r + record-place.contactSize ≤ length g
+  pub room : r + contactSize ≤ length g
 
 -- ---- refusal 2, as one test and as a record
 pub in-range : {g : List ℕ} → T (inRange g) → InRange g
@@ -126,7 +127,7 @@ counts {g} r = counts-fit (holds (countsFit g) (r .counts))
 -- ---- the list, from single conditions
 -- the place in the list that a contact's record names
 abbrev pub indexAt : List ℕ → ℕ → ℕ
-indexAt g id = wordAt g (contactAt g id + record-place.pairIndexPlace)
+indexAt g id = wordAt g (contactAt g id + contactPairIndex)
 
 pub given-at : (g : List ℕ) (p : ℕ) → listedGiven g ≡ true → p < listedCount g → listedAt g p < givenOf g
 unfolding listedGiven
@@ -182,40 +183,40 @@ free-found g id e = let f = any-found (λ j. eqb (freeAt g j) id) (freeCount g) 
 pub record Fitting (g : List ℕ) (at : ℕ) : Type 0 where
   pub collider1 : wordAt g at < colliders
   pub collider2 : wordAt g (at + 1) < colliders
-  pub body1 : T (optionalFits bodies g (at + record-place.body1Place))
-  pub body2 : T (optionalFits bodies g (at + record-place.body2Place))
-  pub marks : (k : ℕ) → k < 11 → wordAt g (at + record-place.edgePlace + k) < 2
-  pub cache : wordAt g (at + record-place.cachePlace) < 2
-  pub manifolds : wordAt g (at + record-place.manifoldsPlace) ≤ pairManifolds
-  pub points : (k : ℕ) → k < wordAt g (at + record-place.manifoldsPlace) → wordAt g (at + record-place.manifoldsPlace + 1 + k * record-place.manifoldSize) ≤ storedPoints
+  pub body1 : T (optionalFits bodies g (at + contactBody1))
+  pub body2 : T (optionalFits bodies g (at + contactBody2))
+  pub marks : (k : ℕ) → k < 11 → wordAt g (at + contactEdgeFlags + k) < 2
+  pub cache : wordAt g (at + contactCache) < 2
+  pub manifolds : wordAt g (at + contactManifolds) ≤ pairManifolds
+  pub points : (k : ℕ) → k < wordAt g (at + contactManifolds) → wordAt g (at + contactManifolds + 1 + k * manifoldSize) ≤ storedPoints
 
-names-fit : (g : List ℕ) (at : ℕ) → namesFit g at ≡ true → (wordAt g at < colliders) × (wordAt g (at + 1) < colliders) × T (optionalFits bodies g (at + record-place.body1Place)) × T (optionalFits bodies g (at + record-place.body2Place))
+names-fit : (g : List ℕ) (at : ℕ) → namesFit g at ≡ true → (wordAt g at < colliders) × (wordAt g (at + 1) < colliders) × T (optionalFits bodies g (at + contactBody1)) × T (optionalFits bodies g (at + contactBody2))
 unfolding namesFit
 names-fit g at e =
     let a = ltb (wordAt g at) colliders in
     let b = ltb (wordAt g (at + 1)) colliders in
-    let c = optionalFits bodies g (at + record-place.body1Place) in
-    let d = optionalFits bodies g (at + record-place.body2Place) in
+    let c = optionalFits bodies g (at + contactBody1) in
+    let d = optionalFits bodies g (at + contactBody2) in
     let l = first-of (a && b) (c && d) e in
     let r = rest-of (a && b) (c && d) e in
     (ltb-true (wordAt g at) colliders (first-of a b l), ltb-true (wordAt g (at + 1)) colliders (rest-of a b l), shown (first-of c d r), shown (rest-of c d r))
 
-marks-fit : (g : List ℕ) (at : ℕ) → marksFit g at ≡ true → ((k : ℕ) → k < 11 → wordAt g (at + record-place.edgePlace + k) < 2) × (wordAt g (at + record-place.cachePlace) < 2)
+marks-fit : (g : List ℕ) (at : ℕ) → marksFit g at ≡ true → ((k : ℕ) → k < 11 → wordAt g (at + contactEdgeFlags + k) < 2) × (wordAt g (at + contactCache) < 2)
 unfolding marksFit
 marks-fit g at e =
-    let f : ℕ → Bool = λ k. ltb (wordAt g (at + record-place.edgePlace + k)) 2 in
-    let c = ltb (wordAt g (at + record-place.cachePlace)) 2 in (
-      λ k h. ltb-true (wordAt g (at + record-place.edgePlace + k)) 2 (every-at f 11 k (first-of (every f 11) c e) h),
-      ltb-true (wordAt g (at + record-place.cachePlace)) 2 (rest-of (every f 11) c e),
+    let f : ℕ → Bool = λ k. ltb (wordAt g (at + contactEdgeFlags + k)) 2 in
+    let c = ltb (wordAt g (at + contactCache)) 2 in (
+      λ k h. ltb-true (wordAt g (at + contactEdgeFlags + k)) 2 (every-at f 11 k (first-of (every f 11) c e) h),
+      ltb-true (wordAt g (at + contactCache)) 2 (rest-of (every f 11) c e),
     )
 
 manifolds-fit : (g : List ℕ) (at : ℕ) → manifoldsFit g at ≡ true
-    → (wordAt g (at + record-place.manifoldsPlace) ≤ pairManifolds)
-    × ((k : ℕ) → k < wordAt g (at + record-place.manifoldsPlace) → wordAt g (at + record-place.manifoldsPlace + 1 + k * record-place.manifoldSize) ≤ storedPoints)
+    → (wordAt g (at + contactManifolds) ≤ pairManifolds)
+    × ((k : ℕ) → k < wordAt g (at + contactManifolds) → wordAt g (at + contactManifolds + 1 + k * manifoldSize) ≤ storedPoints)
 unfolding manifoldsFit
 manifolds-fit g at e =
-    let n = wordAt g (at + record-place.manifoldsPlace) in
-    let points : ℕ → ℕ = λ k. wordAt g (at + record-place.manifoldsPlace + 1 + k * record-place.manifoldSize) in
+    let n = wordAt g (at + contactManifolds) in
+    let points : ℕ → ℕ = λ k. wordAt g (at + contactManifolds + 1 + k * manifoldSize) in
     let f : ℕ → Bool = λ k. leb (points k) storedPoints in (
       leb-true n pairManifolds (first-of (leb n pairManifolds) (every f n) e),
       λ k h. leb-true (points k) storedPoints (every-at f n k (rest-of (leb n pairManifolds) (every f n) e) h),

@@ -3,42 +3,41 @@ ghost use mathlib.Core.Path.{_≡_};
 ghost use mathlib.Core.Bool.{true, _||_};
 ghost use Prim.Native.Nat.{_+_, _≤_, _<_};
 ghost use lib.ListN.{length};
-ghost use Rattle.rules.specs.Limits.{bodies};
-ghost use Rattle.contact_records.specs.Layout.{contactSize};
+ghost use Rattle.layout.specs.Bits.{mostBlocks};
+ghost use Rattle.layout.specs.Contact.{contactCollider2, contactSize};
+ghost use Rattle.rules.specs.Limits.{bodies, colliders};
 ghost use Rattle.contact_range.specs.Range.{rightLength, optionalFits, namesFit, marksFit, manifoldsFit, contactFits, countsFit, listedGiven, namesBack, contactsFit, freeGiven, stands, isFree, freeApart, givenKnown, pairsOnce, inRange};
 ghost use Rattle.contact_range.specs.Recorded.{givenOf};
-ghost use Rattle.contact_range.specs.RangeSteps.{Counted, ListedGiven, Standing, FreeTaken, Unmarked, FreeMarked, listedFits, freeFits, pairNumber};
+ghost use Rattle.contact_range.specs.RangeStepLaws.{Counted, ListedGiven, Standing, FreeTaken, Unmarked, FreeMarked, listedFits, freeFits, pairNumber};
 ghost use Rattle.words.specs.Words.{wordAt};
 ghost use Rattle.contact_range.specs.RangeLaws.{RightLength};
-use crate::layout::BODY1_PLACE;
-use crate::layout::BODY2_PLACE;
-use crate::layout::CACHE_PLACE;
-use crate::layout::CONTACT_SIZE;
-use crate::layout::EDGE_PLACE;
-use crate::layout::FREED_PLACE;
-use crate::layout::GIVEN_PLACE;
-use crate::layout::LIST_PLACE;
-use crate::layout::LISTED_PLACE;
-use crate::layout::MANIFOLD_SIZE;
-use crate::layout::MANIFOLDS_PLACE;
-use crate::layout::MOST_CONTACTS;
-use crate::layout::PAIR_INDEX_PLACE;
-use crate::layout::contact_at;
-use crate::layout::free_at;
-use crate::layout::number_at;
-use contact_types::limits::MANIFOLDS;
-use contact_types::limits::STORED_POINTS;
+use crate::places::contact_at;
+use crate::places::free_at;
+use crate::places::number_at;
 use data_structures::bit_vec::get;
 use data_structures::bit_vec::set;
+use layout::bits::MOST_BLOCKS;
+use layout::contact::CONTACT_BODY1;
+use layout::contact::CONTACT_BODY2;
+use layout::contact::CONTACT_CACHE;
+use layout::contact::CONTACT_COLLIDER2;
+use layout::contact::CONTACT_EDGE_FLAGS;
+use layout::contact::CONTACT_MANIFOLDS;
+use layout::contact::CONTACT_PAIR_INDEX;
+use layout::contact::CONTACT_SIZE;
+use layout::contact::MARKS_SIZE;
+use layout::graph::GRAPH_CAPACITY;
+use layout::graph::GRAPH_FREED;
+use layout::graph::GRAPH_GIVEN;
+use layout::graph::GRAPH_LIST;
+use layout::graph::GRAPH_LISTED;
+use layout::limits::BODIES;
+use layout::limits::COLLIDERS;
+use layout::limits::MANIFOLDS;
+use layout::limits::MOST_CONTACTS;
+use layout::limits::STORED_POINTS;
+use layout::manifold::MANIFOLD_SIZE;
 use words::row::load_word;
-
-// Collider and body numbers are below these, and a mark is below 2.
-const COLLIDERS: u32 = 256;
-
-const BODIES: u32 = 128;
-
-// The marks of a contact's edge and pair, which stand side by side.
-const MARKS: usize = 11;
 
 // Refusal 1: the capacity is 1 to 256, and the length is the one for it.
 pub fn right_length(graph: &[u32]) -> bool
@@ -47,14 +46,14 @@ pub fn right_length(graph: &[u32]) -> bool
     if graph.len() == 0 {
         return false;
     }
-    let capacity = number_at(graph, 0);
+    let capacity = number_at(graph, GRAPH_CAPACITY);
     if capacity == 0 {
         return false;
     }
     if MOST_CONTACTS < capacity {
         return false;
     }
-    graph.len() == LIST_PLACE + 2 * capacity + capacity * CONTACT_SIZE
+    graph.len() == GRAPH_LIST + 2 * capacity + capacity * CONTACT_SIZE
 }
 
 // A mark, and behind a mark of 1 a body's number.
@@ -80,13 +79,13 @@ fn names_fit(graph: &[u32], at: usize) -> bool
     if COLLIDERS <= load_word(graph, at) {
         return false;
     }
-    if COLLIDERS <= load_word(graph, at + 1) {
+    if COLLIDERS <= load_word(graph, at + CONTACT_COLLIDER2) {
         return false;
     }
-    if !body_fits(graph, at + BODY1_PLACE) {
+    if !body_fits(graph, at + CONTACT_BODY1) {
         return false;
     }
-    body_fits(graph, at + BODY2_PLACE)
+    body_fits(graph, at + CONTACT_BODY2)
 }
 
 // The edge's two marks and the pair's nine, and the cache's.
@@ -95,13 +94,13 @@ fn marks_fit(graph: &[u32], at: usize) -> bool
     ensures { λ r. ⌜ r ≡ marksFit (now (graph .entry)) at ⌝ }
 {
     let mut k = 0;
-    while k < MARKS {
-        if 2 <= load_word(graph, at + EDGE_PLACE + k) {
+    while k < MARKS_SIZE {
+        if 2 <= load_word(graph, at + CONTACT_EDGE_FLAGS + k) {
             return false;
         }
         k += 1;
     }
-    load_word(graph, at + CACHE_PLACE) < 2
+    load_word(graph, at + CONTACT_CACHE) < 2
 }
 
 // At most 6 manifolds, and at most 4 points in each that is counted.
@@ -109,13 +108,13 @@ fn manifolds_fit(graph: &[u32], at: usize) -> bool
     requires { ⌜ at + contactSize ≤ length (now graph) ⌝ }
     ensures { λ r. ⌜ r ≡ manifoldsFit (now (graph .entry)) at ⌝ }
 {
-    let count = number_at(graph, at + MANIFOLDS_PLACE);
+    let count = number_at(graph, at + CONTACT_MANIFOLDS);
     if MANIFOLDS < count {
         return false;
     }
     let mut k = 0;
     while k < count {
-        let points = number_at(graph, at + MANIFOLDS_PLACE + 1 + k * MANIFOLD_SIZE);
+        let points = number_at(graph, at + CONTACT_MANIFOLDS + 1 + k * MANIFOLD_SIZE);
         if STORED_POINTS < points {
             return false;
         }
@@ -143,14 +142,14 @@ fn counts_fit(graph: &[u32]) -> bool
     requires { ⌜ RightLength (now graph) ⌝ }
     ensures { λ r. ⌜ r ≡ countsFit (now (graph .entry)) ⌝ }
 {
-    let capacity = number_at(graph, 0);
-    if capacity < number_at(graph, GIVEN_PLACE) {
+    let capacity = number_at(graph, GRAPH_CAPACITY);
+    if capacity < number_at(graph, GRAPH_GIVEN) {
         return false;
     }
-    if capacity < number_at(graph, LISTED_PLACE) {
+    if capacity < number_at(graph, GRAPH_LISTED) {
         return false;
     }
-    number_at(graph, FREED_PLACE) <= capacity
+    number_at(graph, GRAPH_FREED) <= capacity
 }
 
 // A listed id was given.
@@ -158,11 +157,11 @@ fn listed_given(graph: &[u32]) -> bool
     requires { ⌜ Counted (now graph) ⌝ }
     ensures { λ r. ⌜ r ≡ listedGiven (now (graph .entry)) ⌝ }
 {
-    let given = number_at(graph, GIVEN_PLACE);
-    let listed = number_at(graph, LISTED_PLACE);
+    let given = number_at(graph, GRAPH_GIVEN);
+    let listed = number_at(graph, GRAPH_LISTED);
     let mut p = 0;
     while p < listed {
-        if given <= number_at(graph, LIST_PLACE + p) {
+        if given <= number_at(graph, GRAPH_LIST + p) {
             return false;
         }
         p += 1;
@@ -175,12 +174,12 @@ fn names_back(graph: &[u32]) -> bool
     requires { ⌜ ListedGiven (now graph) ⌝ }
     ensures { λ r. ⌜ r ≡ namesBack (now (graph .entry)) ⌝ }
 {
-    let listed = number_at(graph, LISTED_PLACE);
+    let listed = number_at(graph, GRAPH_LISTED);
     let mut p = 0;
     while p < listed {
-        let id = number_at(graph, LIST_PLACE + p);
+        let id = number_at(graph, GRAPH_LIST + p);
         let at = contact_at(graph, id);
-        if number_at(graph, at + PAIR_INDEX_PLACE) != p {
+        if number_at(graph, at + CONTACT_PAIR_INDEX) != p {
             return false;
         }
         p += 1;
@@ -193,10 +192,10 @@ fn contacts_fit(graph: &[u32]) -> bool
     requires { ⌜ ListedGiven (now graph) ⌝ }
     ensures { λ r. ⌜ r ≡ contactsFit (now (graph .entry)) ⌝ }
 {
-    let listed = number_at(graph, LISTED_PLACE);
+    let listed = number_at(graph, GRAPH_LISTED);
     let mut p = 0;
     while p < listed {
-        let id = number_at(graph, LIST_PLACE + p);
+        let id = number_at(graph, GRAPH_LIST + p);
         let at = contact_at(graph, id);
         if !contact_fits(graph, at) {
             return false;
@@ -228,8 +227,8 @@ fn free_given(graph: &[u32]) -> bool
     requires { ⌜ Counted (now graph) ⌝ }
     ensures { λ r. ⌜ r ≡ freeGiven (now (graph .entry)) ⌝ }
 {
-    let given = number_at(graph, GIVEN_PLACE);
-    let freed = number_at(graph, FREED_PLACE);
+    let given = number_at(graph, GRAPH_GIVEN);
+    let freed = number_at(graph, GRAPH_FREED);
     let mut k = 0;
     while k < freed {
         if given <= free_at(graph, k) {
@@ -242,10 +241,10 @@ fn free_given(graph: &[u32]) -> bool
 
 // No id is free twice: each is marked, and none is marked already.
 fn free_once(graph: &[u32], marks: &mut [u64]) -> bool
-    requires { ⌜ Counted (now graph) × (freeGiven (now graph) ≡ true) × (length (now marks) ≡ 4) × Unmarked (now marks) ⌝ }
+    requires { ⌜ Counted (now graph) × (freeGiven (now graph) ≡ true) × (length (now marks) ≡ mostBlocks) × Unmarked (now marks) ⌝ }
     ensures { λ r. ⌜ FreeMarked (now (graph .entry)) (now (marks .exit)) r ⌝ }
 {
-    let freed = number_at(graph, FREED_PLACE);
+    let freed = number_at(graph, GRAPH_FREED);
     let mut k = 0;
     while k < freed {
         let id = free_at(graph, k);
@@ -264,11 +263,11 @@ pub fn is_standing(graph: &[u32], id: usize) -> bool
     ensures { λ r. ⌜ r ≡ stands (now (graph .entry)) id ⌝ }
 {
     let at = contact_at(graph, id);
-    let index = number_at(graph, at + PAIR_INDEX_PLACE);
-    if number_at(graph, LISTED_PLACE) <= index {
+    let index = number_at(graph, at + CONTACT_PAIR_INDEX);
+    if number_at(graph, GRAPH_LISTED) <= index {
         return false;
     }
-    number_at(graph, LIST_PLACE + index) == id
+    number_at(graph, GRAPH_LIST + index) == id
 }
 
 // No id is both free and standing.
@@ -276,7 +275,7 @@ fn free_apart(graph: &[u32]) -> bool
     requires { ⌜ Standing (now graph) × (freeGiven (now graph) ≡ true) ⌝ }
     ensures { λ r. ⌜ r ≡ freeApart (now (graph .entry)) ⌝ }
 {
-    let freed = number_at(graph, FREED_PLACE);
+    let freed = number_at(graph, GRAPH_FREED);
     let mut k = 0;
     while k < freed {
         let id = free_at(graph, k);
@@ -304,7 +303,7 @@ fn given_known(graph: &[u32], marks: &[u64]) -> bool
     requires { ⌜ Standing (now graph) × FreeTaken (now graph) (now marks) ⌝ }
     ensures { λ r. ⌜ r ≡ givenKnown (now (graph .entry)) ⌝ }
 {
-    let given = number_at(graph, GIVEN_PLACE);
+    let given = number_at(graph, GRAPH_GIVEN);
     let mut id = 0;
     while id < given {
         if !is_known(graph, marks, id) {
@@ -323,7 +322,7 @@ fn free_fit(graph: &[u32]) -> bool
     if !free_given(graph) {
         return false;
     }
-    let mut marks = [0u64; 4];
+    let mut marks = [0u64; MOST_BLOCKS];
     if !free_once(graph, &mut marks) {
         return false;
     }
@@ -335,7 +334,7 @@ fn free_fit(graph: &[u32]) -> bool
 
 // A number for the pair of a contact's colliders, the same in either order.
 fn pair_number(graph: &[u32], at: usize) -> usize
-    requires { ⌜ (at + contactSize ≤ length (now graph)) × (wordAt (now graph) at < 256) × (wordAt (now graph) (at + 1) < 256) ⌝ }
+    requires { ⌜ (at + contactSize ≤ length (now graph)) × (wordAt (now graph) at < colliders) × (wordAt (now graph) (at + contactCollider2) < colliders) ⌝ }
     ensures { λ r. ⌜ r ≡ pairNumber (wordAt (now (graph .entry)) at) (wordAt (now (graph .entry)) (at + 1)) ⌝ }
 {
     let a = number_at(graph, at);
@@ -348,10 +347,10 @@ fn pairs_differ(graph: &[u32], marks: &mut [u64]) -> bool
     requires { ⌜ ListedGiven (now graph) × (contactsFit (now graph) ≡ true) × (length (now marks) ≡ 1024) × Unmarked (now marks) ⌝ }
     ensures { λ r. ⌜ r ≡ pairsOnce (now (graph .entry)) ⌝ }
 {
-    let listed = number_at(graph, LISTED_PLACE);
+    let listed = number_at(graph, GRAPH_LISTED);
     let mut p = 0;
     while p < listed {
-        let id = number_at(graph, LIST_PLACE + p);
+        let id = number_at(graph, GRAPH_LIST + p);
         let at = contact_at(graph, id);
         let pair = pair_number(graph, at);
         if get(marks, pair) {

@@ -9,7 +9,7 @@ use lib.IntN.{ℤ, pos, negsuc}
 use Rattle.rules.specs.Records.{Cache, PairFlags, Names, EdgeFlags, Pair}
 use Rattle.words.specs.Words.{wordAt, floatAt, vec3At, quatAt}
 use Rattle.manifold_records.specs.Recorded.{manifoldsAt}
-use Rattle.contact_records.specs.Layout as place
+use Rattle.layout.specs.Contact.{cacheRelativeRotation, cacheRelativeTranslation, cacheRotation1, cacheRotation2, contactBody1, contactBody2, contactCache, contactCountChange, contactEdgeFlags, contactFlags, contactManifolds, contactSpeculativeDistance}
 
 abbrev pub markAt : List ℕ → ℕ → Bool
 markAt xs at = eqb (wordAt xs at) 1
@@ -25,7 +25,7 @@ intOf w = cond (ltb w (2 ^ 31)) (pos w) (negsuc (2 ^ 32 - 1 - w))
 unfoldable pub cacheAt : List ℕ → ℕ → Option Cache
 cacheAt xs at =
     cond (markAt xs at)
-    (some (record { rotation1 = quatAt xs (at + 1); rotation2 = quatAt xs (at + 5); relativeTranslation = vec3At xs (at + 9); relativeRotation = quatAt xs (at + 12) }))
+    (some (record { rotation1 = quatAt xs (at + cacheRotation1); rotation2 = quatAt xs (at + cacheRotation2); relativeTranslation = vec3At xs (at + cacheRelativeTranslation); relativeRotation = quatAt xs (at + cacheRelativeRotation) }))
     none
 
 unfoldable pub flagsAt : List ℕ → ℕ → PairFlags
@@ -48,8 +48,8 @@ namesAt xs at id =
       id = id;
       collider1 = wordAt xs at;
       collider2 = wordAt xs (at + 1);
-      body1 = optionalAt xs (at + place.body1Place);
-      body2 = optionalAt xs (at + place.body2Place);
+      body1 = optionalAt xs (at + contactBody1);
+      body2 = optionalAt xs (at + contactBody2);
     }
 
 unfoldable pub edgeAt : List ℕ → ℕ → EdgeFlags
@@ -60,10 +60,10 @@ unfoldable pub pairAt : List ℕ → ℕ → ℕ → Pair
 pairAt xs at id =
     record {
       names = namesAt xs at id;
-      edge = edgeAt xs (at + place.edgePlace);
-      flags = flagsAt xs (at + place.flagsPlace);
-      manifolds = manifoldsAt xs (at + place.manifoldsPlace);
-      countChange = intOf (wordAt xs (at + place.countChangePlace));
-      speculative = floatAt xs (at + place.speculativePlace);
-      cache = cacheAt xs (at + place.cachePlace);
+      edge = edgeAt xs (at + contactEdgeFlags);
+      flags = flagsAt xs (at + contactFlags);
+      manifolds = manifoldsAt xs (at + contactManifolds);
+      countChange = intOf (wordAt xs (at + contactCountChange));
+      speculative = floatAt xs (at + contactSpeculativeDistance);
+      cache = cacheAt xs (at + contactCache);
     }

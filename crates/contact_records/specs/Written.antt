@@ -1,16 +1,12 @@
 -- The words of a plain record, 0 in places that record nothing. Definitions only.
 use Prim.Native.Nat.{ℕ, _-_, _^_}
-use mathlib.Core.Bool.{Bool, cond}
 use mathlib.Core.List.{List, [], _∷_, _++_}
 use mathlib.Core.Option.{Option, none, some}
 use lib.IntN.{ℤ, pos, negsuc}
 use Rattle.rules.specs.Records.{Cache, PairFlags, Names, EdgeFlags, Pair}
-use Rattle.words.specs.Words.{floatWord, vec3Words, quatWords}
+use Rattle.words.specs.Words.{markWord, floatWord, vec3Words, quatWords}
 use Rattle.manifold_records.specs.Written.{zeros, manifoldsWords}
-use Rattle.contact_records.specs.Layout as place
-
-abbrev pub markWord : Bool → ℕ
-markWord b = cond b 1 0
+use Rattle.layout.specs.Contact.{cacheSize}
 
 unfoldable pub optionalWords : Option ℕ → List ℕ
 optionalWords none = 0 ∷ 0 ∷ []
@@ -22,7 +18,7 @@ intWord (pos n) = n
 intWord (negsuc n) = 2 ^ 32 - 1 - n
 
 unfoldable pub cacheWords : Option Cache → List ℕ
-cacheWords none = zeros place.cacheSize
+cacheWords none = zeros cacheSize
 cacheWords (some c) = 1 ∷ quatWords (c .rotation1) ++ quatWords (c .rotation2) ++ vec3Words (c .relativeTranslation) ++ quatWords (c .relativeRotation)
 
 unfoldable pub flagsWords : PairFlags → List ℕ

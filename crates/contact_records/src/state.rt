@@ -3,15 +3,23 @@ ghost use mathlib.Core.Path.{_≡_};
 ghost use Prim.Native.Nat.{_+_, _≤_};
 ghost use lib.ListN.{length};
 ghost use Rattle.rows.specs.Rows.{put};
+ghost use Rattle.layout.specs.Contact.{cacheSize, flagsSize};
 ghost use Rattle.contact_records.specs.Recorded.{intOf, flagsAt, cacheAt};
 ghost use Rattle.contact_records.specs.StateViews.{flagsOf, cachedOf, cacheOf};
-ghost use Rattle.contact_records.specs.Written.{markWord, intWord, flagsWords, cacheWords};
+ghost use Rattle.contact_records.specs.Written.{intWord, flagsWords, cacheWords};
 ghost use mathlib.Core.Option.{some};
 use contact_types::contact_manifold::ContactRecyclingCache;
+use layout::contact::CACHE_RELATIVE_ROTATION;
+use layout::contact::CACHE_RELATIVE_TRANSLATION;
+use layout::contact::CACHE_ROTATION1;
+use layout::contact::CACHE_ROTATION2;
+use layout::contact::CACHE_SIZE;
+use layout::contact::FLAGS_SIZE;
 use manifold_records::zeros::store_zeros;
 use math::bits::bits_of;
 use words::row::load_word;
 use words::row::load_words;
+use words::row::mark_word;
 use words::row::store_words;
 use words::vec::load_quat;
 use words::vec::load_vec3;
@@ -30,7 +38,7 @@ pub struct ContactPairFlags {
 }
 
 // The flags, of their words.
-fn flags_of(w: [u32; 9]) -> ContactPairFlags
+fn flags_of(w: [u32; FLAGS_SIZE]) -> ContactPairFlags
     ensures { λ r. ⌜ flagsOf r ≡ flagsAt w 0 ⌝ }
 {
     ContactPairFlags {
@@ -47,22 +55,15 @@ fn flags_of(w: [u32; 9]) -> ContactPairFlags
 }
 
 pub fn load_flags(g: &[u32], at: usize) -> ContactPairFlags
-    requires { ⌜ at + 9 ≤ length (now g) ⌝ }
+    requires { ⌜ at + flagsSize ≤ length (now g) ⌝ }
     ensures { λ r. ⌜ flagsOf r ≡ flagsAt (now (g .entry)) at ⌝ }
 {
-    let mut w = [0u32; 9];
+    let mut w = [0u32; FLAGS_SIZE];
     load_words(g, at, &mut w);
     flags_of(w)
 }
 
-// A mark's word.
-pub fn mark_word(b: bool) -> u32
-    ensures { λ r. ⌜ r ≡ markWord b ⌝ }
-{
-    if b { 1 } else { 0 }
-}
-
-fn flags_words(f: ContactPairFlags) -> [u32; 9]
+fn flags_words(f: ContactPairFlags) -> [u32; FLAGS_SIZE]
     ensures { λ r. ⌜ r ≡ flagsWords (flagsOf f) ⌝ }
 {
     [
@@ -79,7 +80,7 @@ fn flags_words(f: ContactPairFlags) -> [u32; 9]
 }
 
 pub fn store_flags(g: &mut [u32], at: usize, f: ContactPairFlags)
-    requires { ⌜ at + 9 ≤ length (now g) ⌝ }
+    requires { ⌜ at + flagsSize ≤ length (now g) ⌝ }
     ensures { λ _. ⌜ now (g .exit) ≡ put (now (g .entry)) at (flagsWords (flagsOf f)) ⌝ }
 {
     let w = flags_words(f);
@@ -114,23 +115,23 @@ pub enum RecyclingCache {
 }
 
 pub fn load_cache(g: &[u32], at: usize) -> RecyclingCache
-    requires { ⌜ at + 16 ≤ length (now g) ⌝ }
+    requires { ⌜ at + cacheSize ≤ length (now g) ⌝ }
     ensures { λ r. ⌜ cacheOf r ≡ cacheAt (now (g .entry)) at ⌝ }
 {
     let mark = load_word(g, at);
     if mark == 1 {
         RecyclingCache::Cached(ContactRecyclingCache {
-            rotation1: load_quat(g, at + 1),
-            rotation2: load_quat(g, at + 5),
-            relative_translation: load_vec3(g, at + 9),
-            relative_rotation: load_quat(g, at + 12),
+            rotation1: load_quat(g, at + CACHE_ROTATION1),
+            rotation2: load_quat(g, at + CACHE_ROTATION2),
+            relative_translation: load_vec3(g, at + CACHE_RELATIVE_TRANSLATION),
+            relative_rotation: load_quat(g, at + CACHE_RELATIVE_ROTATION),
         })
     } else {
         RecyclingCache::Nothing
     }
 }
 
-fn cached_words(c: ContactRecyclingCache) -> [u32; 16]
+fn cached_words(c: ContactRecyclingCache) -> [u32; CACHE_SIZE]
     ensures { λ r. ⌜ r ≡ cacheWords (some (cachedOf c)) ⌝ }
 {
     let a = c.rotation1;
@@ -158,7 +159,7 @@ fn cached_words(c: ContactRecyclingCache) -> [u32; 16]
 }
 
 pub fn store_cache(g: &mut [u32], at: usize, c: RecyclingCache)
-    requires { ⌜ at + 16 ≤ length (now g) ⌝ }
+    requires { ⌜ at + cacheSize ≤ length (now g) ⌝ }
     ensures { λ _. ⌜ now (g .exit) ≡ put (now (g .entry)) at (cacheWords (cacheOf c)) ⌝ }
 {
     match c {
@@ -166,6 +167,6 @@ pub fn store_cache(g: &mut [u32], at: usize, c: RecyclingCache)
             let w = cached_words(poses);
             store_words(g, at, &w);
         }
-        RecyclingCache::Nothing => store_zeros(g, at, 16),
+        RecyclingCache::Nothing => store_zeros(g, at, CACHE_SIZE),
     }
 }

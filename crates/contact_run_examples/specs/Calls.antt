@@ -4,13 +4,17 @@ use mathlib.Core.Bool.{Bool, true, false, cond}
 use mathlib.Core.List.{List, [], _∷_, _++_}
 use lib.Ieee.{ofBits, binary32}
 use Rattle.rules.specs.Solver.{warmStartNormalImpulse}
-use Rattle.collider.specs.Layout.{colliderSize, collidersLength, bodySize, bodiesLength}
-use Rattle.proposals.specs.Layout as proposed-place
+use Rattle.layout.specs.Body.{bodiesLength, bodySize}
+use Rattle.layout.specs.Change.{changesLength}
+use Rattle.layout.specs.Collider.{colliderSize, collidersLength}
+use Rattle.layout.specs.Contact.{contactSize}
+use Rattle.layout.specs.Event.{eventsLength}
+use Rattle.layout.specs.Manifold.{manifoldSize, manifoldsSize}
+use Rattle.layout.specs.Point.{pointSize}
+use Rattle.layout.specs.Proposal.{proposedManifoldSize, proposedPointSize}
 use Rattle.manifold_records.specs.Written.{zeros}
-use Rattle.contact_records.specs.Layout as place
 use Rattle.contact_graph.specs.Promises as graph
 use Rattle.contact_graph.specs.declared.call.Request.{Request}
-use Rattle.status_pass.specs.EventsAndChanges.{eventsLength, changesLength}
 use Rattle.update_pass.specs.Shared.{bitsLength}
 use Rattle.step.specs.Step as step
 use Rattle.step.specs.Step.{Given, Rows}
@@ -55,11 +59,11 @@ settings recycle = 0x3c88_8889 ∷ one ∷ 0x3ba3_d70a ∷ recycle ∷ 0x3f7a_e1
 
 -- a manifold of one point, 0.1 deep, at that place of the axis x and with that feature of both colliders
 unfoldable pub proposedWords : ℕ → ℕ → List ℕ
-proposedWords at feature = 1 ∷ one ∷ 0 ∷ 0 ∷ at ∷ 0 ∷ 0 ∷ at ∷ 0 ∷ 0 ∷ at ∷ 0 ∷ 0 ∷ depth ∷ feature ∷ feature ∷ zeros (31 * proposed-place.pointSize)
+proposedWords at feature = 1 ∷ one ∷ 0 ∷ 0 ∷ at ∷ 0 ∷ 0 ∷ at ∷ 0 ∷ 0 ∷ at ∷ 0 ∷ 0 ∷ depth ∷ feature ∷ feature ∷ zeros (31 * proposedPointSize)
 
 -- that many manifolds, of these two
 unfoldable pub proposalWords : ℕ → List ℕ
-proposalWords count = 1 ∷ count ∷ proposedWords 0 0 ++ proposedWords one 1 ++ zeros (4 * proposed-place.manifoldSize)
+proposalWords count = 1 ∷ count ∷ proposedWords 0 0 ++ proposedWords one 1 ++ zeros (4 * proposedManifoldSize)
 
 -- one worker with contact 0, or with contacts 0 and 1
 unfoldable pub oneWorker : ℕ → List ℕ
@@ -180,14 +184,14 @@ others = callsThen twoWorkers usedRows (laterThen last)
 -- a manifold of one point, with that place, penetration, warm start normal impulse and feature
 unfoldable pub storedWords : ℕ → ℕ → ℕ → ℕ → List ℕ
 storedWords at penetration warm feature =
-    1 ∷ one ∷ 0 ∷ 0 ∷ 0x3f00_0000 ∷ 0 ∷ 0 ∷ 0 ∷ 0 ∷ at ∷ 0 ∷ 0 ∷ at ∷ 0 ∷ 0 ∷ at ∷ 0 ∷ 0 ∷ penetration ∷ depth ∷ 0 ∷ 0 ∷ warm ∷ 0 ∷ 0 ∷ feature ∷ feature ∷ zeros (3 * place.pointSize)
+    1 ∷ one ∷ 0 ∷ 0 ∷ 0x3f00_0000 ∷ 0 ∷ 0 ∷ 0 ∷ 0 ∷ at ∷ 0 ∷ 0 ∷ at ∷ 0 ∷ 0 ∷ at ∷ 0 ∷ 0 ∷ penetration ∷ depth ∷ 0 ∷ 0 ∷ warm ∷ 0 ∷ 0 ∷ feature ∷ feature ∷ zeros (3 * pointSize)
 
 -- one manifold, or two
 unfoldable pub single : ℕ → ℕ → List ℕ
-single penetration warm = 1 ∷ storedWords 0 penetration warm 0 ++ zeros (5 * place.manifoldSize)
+single penetration warm = 1 ∷ storedWords 0 penetration warm 0 ++ zeros (5 * manifoldSize)
 
 unfoldable pub double : ℕ → List ℕ
-double warm = 2 ∷ storedWords 0 depth warm 0 ++ storedWords one depth 0 1 ++ zeros (4 * place.manifoldSize)
+double warm = 2 ∷ storedWords 0 depth warm 0 ++ storedWords one depth 0 1 ++ zeros (4 * manifoldSize)
 
 -- colliders, which have the bodies of the same numbers, and the place in the list
 unfoldable pub namedWords : ℕ → ℕ → ℕ → List ℕ
@@ -195,7 +199,7 @@ namedWords a b index = a ∷ b ∷ 1 ∷ a ∷ 1 ∷ b ∷ index ∷ []
 
 -- a contact that no step has updated, or that one has found disjoint
 unfoldable pub newWords : ℕ → ℕ → ℕ → ℕ → List ℕ
-newWords a b index disjoint = namedWords a b index ++ 0 ∷ 1 ∷ 0 ∷ disjoint ∷ zeros (place.contactSize - 11)
+newWords a b index disjoint = namedWords a b index ++ 0 ∷ 1 ∷ 0 ∷ disjoint ∷ zeros (contactSize - 11)
 
 -- two bodies at the origin, not turned
 unfoldable pub cached : List ℕ
@@ -207,7 +211,7 @@ metWords a b index touching disjoint change manifolds = namedWords a b index ++ 
 
 -- after one addition, and after two
 unfoldable pub first : List ℕ
-first = 2 ∷ 1 ∷ 1 ∷ 0 ∷ 0 ∷ 0 ∷ 0 ∷ 0 ∷ newWords 0 1 0 0 ++ zeros place.contactSize
+first = 2 ∷ 1 ∷ 1 ∷ 0 ∷ 0 ∷ 0 ∷ 0 ∷ 0 ∷ newWords 0 1 0 0 ++ zeros contactSize
 
 unfoldable pub second : List ℕ
 second = 2 ∷ 2 ∷ 2 ∷ 0 ∷ 0 ∷ 1 ∷ 0 ∷ 0 ∷ newWords 0 1 0 0 ++ newWords 1 2 1 0
@@ -232,11 +236,11 @@ doubled = alone 1 0 (double one)
 
 -- count change −2
 abbrev pub parted : List ℕ
-parted = alone 0 0xffff_fffe (zeros place.manifoldsSize)
+parted = alone 0 0xffff_fffe (zeros manifoldsSize)
 
 -- with contact 1 added, and with both touching
 unfoldable pub readded : List ℕ
-readded = 2 ∷ 2 ∷ 2 ∷ 0 ∷ 0 ∷ 1 ∷ 1 ∷ 0 ∷ metWords 0 1 0 0 0 0xffff_fffe (zeros place.manifoldsSize) ++ newWords 0 2 1 0
+readded = 2 ∷ 2 ∷ 2 ∷ 0 ∷ 0 ∷ 1 ∷ 1 ∷ 0 ∷ metWords 0 1 0 0 0 0xffff_fffe (zeros manifoldsSize) ++ newWords 0 2 1 0
 
 unfoldable pub met : List ℕ
 met = 2 ∷ 2 ∷ 2 ∷ 0 ∷ 0 ∷ 1 ∷ 1 ∷ 0 ∷ metWords 0 1 0 1 0 2 (double 0) ++ metWords 0 2 1 1 0 1 (single depth 0)

@@ -3,7 +3,7 @@ pub mod Seen
 pub mod NextLaws
 pub mod PastLaws
 pub mod Calls
-pub mod Answers
-pub mod RowWords
-pub mod Runs
-pub mod TwoWorkers
+pub mod AnswerLaws
+pub mod RowWordLaws
+pub mod RunLaws
+pub mod TwoWorkersLaws

@@ -30,7 +30,7 @@ use Rattle.contact_range.specs.Range.{rightLength, namesFit, marksFit, manifold
 use Rattle.data_structures.specs.BitVec.{blocksOf, numbersWith}
 use Rattle.contact_update.specs.After.{pointsPut, manifoldsPut, afterWords, recordUpdated, recordAfter, graphAfter, inputsOf}
 use Rattle.contact_update.specs.Contact.{updateOf}
-use Rattle.contact_update.specs.Order.{graphAfterAll}
+use Rattle.contact_update.specs.OrderLaws.{graphAfterAll}
 use Rattle.shares.specs.Shares as shares
 use Rattle.status_pass.specs.Pass.{settledGraph, visitedGraph, visitWords, passWords}
 use Rattle.status_pass.specs.Settled.{settledWords}

@@ -13,7 +13,8 @@ use Rattle.rules.specs.Limits.{bodies}
 use Rattle.rules.specs.Numbers.{every}
 use Rattle.rule_laws.specs.NumberLaws.{every-at, every-all}
 use Rattle.words.specs.Words.{wordAt}
-use Rattle.collider.specs.Layout as place
+use Rattle.layout.specs.Body.{bodyFriction, bodyMargin, bodySpeculativeMaximum, bodyStatic}
+use Rattle.layout.specs.Collider.{colliderBody, colliderFriction, colliderMargin, colliderRestitution, colliderSensor, colliderSize}
 use Rattle.collider.specs.Range.{isMark, coefficientFits, whereSet, colliderFits, bodyFits}
 use Rattle.collider.specs.Recorded.{colliderAt, presentCollider}
 use Rattle.manifold_records.specs.Written.{zeros}
@@ -34,26 +35,26 @@ module _ (ws : List ℕ) (m : ℕ) where
       let e : at ≡ length ws + k = omega arith in
       ap (wordAt (ws ++ zeros m)) e ∙ getD-append-add ws (zeros m) k 0 ∙ zeros-at m k
 
-  pub collider-past : (n : ℕ) → length ws ≤ n * place.colliderSize → colliderAt (ws ++ zeros m) n ≡ none
+  pub collider-past : (n : ℕ) → length ws ≤ n * colliderSize → colliderAt (ws ++ zeros m) n ≡ none
   unfolding colliderAt
   collider-past n l =
-      ap (λ (w : ℕ). cond (eqb w 1) (some (presentCollider (ws ++ zeros m) (n * place.colliderSize))) none) (word-past (n * place.colliderSize) l)
+      ap (λ (w : ℕ). cond (eqb w 1) (some (presentCollider (ws ++ zeros m) (n * colliderSize))) none) (word-past (n * colliderSize) l)
 
   pub collider-fits-past : (at : ℕ) → length ws ≤ at → colliderFits (ws ++ zeros m) at ≡ true
   unfolding colliderFits
   collider-fits-past at l =
       let xs = ws ++ zeros m in
       ap (λ (w : ℕ). whereSet w
-      (whereSet (wordAt xs (at + place.colliderBodyPlace)) (ltb (wordAt xs (at + place.colliderBodyPlace + 1)) bodies)
-      && (coefficientFits xs (at + place.colliderFrictionPlace)
-      && (coefficientFits xs (at + place.restitutionPlace)
-      && (isMark (wordAt xs (at + place.colliderMarginPlace)) && isMark (wordAt xs (at + place.sensorPlace))))))) (word-past at l)
+      (whereSet (wordAt xs (at + colliderBody)) (ltb (wordAt xs (at + colliderBody + 1)) bodies)
+      && (coefficientFits xs (at + colliderFriction)
+      && (coefficientFits xs (at + colliderRestitution)
+      && (isMark (wordAt xs (at + colliderMargin)) && isMark (wordAt xs (at + colliderSensor))))))) (word-past at l)
 
   pub body-fits-past : (at : ℕ) → length ws ≤ at → bodyFits (ws ++ zeros m) at ≡ true
   unfolding bodyFits
   body-fits-past at l =
       let xs = ws ++ zeros m in
       ap (λ (w : ℕ). whereSet w
-      (isMark (wordAt xs (at + place.staticPlace))
-      && (coefficientFits xs (at + place.bodyFrictionPlace)
-      && (isMark (wordAt xs (at + place.bodyMarginPlace)) && isMark (wordAt xs (at + place.speculativePlace)))))) (word-past at l)
+      (isMark (wordAt xs (at + bodyStatic))
+      && (coefficientFits xs (at + bodyFriction)
+      && (isMark (wordAt xs (at + bodyMargin)) && isMark (wordAt xs (at + bodySpeculativeMaximum)))))) (word-past at l)

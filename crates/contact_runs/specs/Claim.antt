@@ -43,7 +43,7 @@ use Rattle.contact_range.specs.Recorded.{capacityOf, graphOf}
 use Rattle.contact_graph.specs.declared.add.AddAnswer.{AddAnswer}
 use Rattle.contact_graph.specs.declared.call.Request.{Request}
 use Rattle.contact_graph.specs.declared.lay_out.LayOutAnswer.{LayOutAnswer}
-use Rattle.shares.specs.Layout.{sharesLength}
+use Rattle.layout.specs.Shares.{sharesLength}
 use Rattle.shares.specs.Shares.{sharesFit}
 use Rattle.status_pass.specs.EventsAndChanges.{eventWords, changeWords}
 use Rattle.step.specs.Step as step

@@ -11,10 +11,10 @@ pub mod WriteLaws
 pub mod OrderLaws
 pub mod ReadLaws
 pub mod RunLaws
-pub mod OrderedRuns
+pub mod OrderedRunLaws
 pub mod OnlyLaws
-pub mod AlikeRuns
+pub mod AlikeRunLaws
 pub mod ReplayLaws
 pub mod ProvisoLaws
-pub mod CalledRuns
-pub mod Demand
+pub mod CalledRunLaws
+pub mod DemandLaws

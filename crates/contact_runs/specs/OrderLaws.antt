@@ -17,7 +17,7 @@ use Rattle.words.specs.Words.{floatWord}
 use Rattle.collider.specs.Recorded.{settingsOf}
 use Rattle.data_structures.specs.BitVec.{blocksOf, bitAt, marked, joined, setBits}
 use Rattle.data_structures.specs.BitVecLaws.{blocks-hold}
-use Rattle.manifold_records.specs.Lists.{getD-map-upto, length-map-upto, length-zeros}
+use Rattle.manifold_records.specs.ListLaws.{getD-map-upto, length-map-upto, length-zeros}
 use Rattle.manifold_records.specs.Written.{zeros}
 use Rattle.contact_range.specs.Checked.{Checked}
 use Rattle.contact_graph.specs.LaidOutLaws.{zeros-at}
@@ -25,19 +25,19 @@ use Rattle.contact_range.specs.Range.{stands}
 use Rattle.contact_range.specs.RangeLaws.{standing-below}
 use Rattle.contact_range.specs.Recorded.{capacityOf}
 use Rattle.contact_update.specs.After.{graphAfter}
-use Rattle.contact_update.specs.Order.{graphAfterAll, any-order, others-unaffected}
-use Rattle.contact_update.specs.UpdateFits.{settings-fit-read}
+use Rattle.contact_update.specs.OrderLaws.{graphAfterAll, any-order, others-unaffected}
+use Rattle.contact_update.specs.UpdateFitLaws.{settings-fit-read}
 use Rattle.status_pass.specs.Pass.{Passing, begun, passWords}
 use Rattle.status_pass.specs.EventsAndChanges.{eventWords, changeWords}
 use Rattle.shares.specs.Shares.{workersOf, countOf, startOf, totalOf, entryAt}
-use Rattle.step.specs.Accepted.{Accepted, accepted, all-ready}
+use Rattle.step.specs.AcceptedLaws.{Accepted, accepted, all-ready}
 use Rattle.step.specs.Step as step
 use Rattle.step.specs.Step.{Given, Rows, stepRefusal, madeOf, updatedGraph, passOf, rowsOf, answerOf}
 use Rattle.step.specs.StepLaws.{code-order}
 use Rattle.update_pass.specs.BitsLaws.{EntriesActive, entries-active, active-distinct, active-under, active-stands, stands-active, bit-zeros, bit-after, part-bits, length-part-bits}
 use Rattle.update_pass.specs.ListsLaws.{length-bits-after, listedIn, listed-in, in-listed, share-room, distances-any, recycled-any}
 use Rattle.update_pass.specs.Shared.{activeOf, entriesOf, firstOf, shareOf, bitsAfter, distancesAfter, recycledOf, workerBits, partsOf, joinedOf, standingIds, distancesOf}
-use Rattle.update_pass.specs.UpdatedAll.{AllReady, AllStand, after-ready, after-stands}
+use Rattle.update_pass.specs.UpdatedAllLaws.{AllReady, AllStand, after-ready, after-stands}
 use Rattle.contact_runs.specs.Ordered.{Stage, stageAt, updateOne, updateEach, partsRow, partsJoined, passAfter, rowsAfter, answerAfter}
 use Rattle.data_structures.specs.SameBitsLaws.{marked-below, same-bits}
 

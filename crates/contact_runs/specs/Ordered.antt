@@ -14,7 +14,7 @@ use Rattle.manifold_records.specs.Written.{zeros}
 use Rattle.contact_range.specs.Recorded.{capacityOf}
 use Rattle.collider.specs.Recorded.{settingsOf}
 use Rattle.contact_update.specs.After.{graphAfter}
-use Rattle.shares.specs.Layout.{mostWorkers}
+use Rattle.rules.specs.Limits.{mostWorkers}
 use Rattle.status_pass.specs.Pass.{Passing, begun, passWords}
 use Rattle.status_pass.specs.EventsAndChanges.{eventWords, changeWords}
 use Rattle.step.specs.Step as step

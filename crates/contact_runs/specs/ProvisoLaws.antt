@@ -9,21 +9,20 @@ use lib.Dec.{T, eqb}
 use Rattle.math.specs.Constants.{zeroF}
 use Rattle.rules.specs.Graph.{Graph, emptyGraph, newPair, newId, plainAdd}
 use Rattle.rules.specs.Inputs.{Settings, Collider, Body, ProposedManifold, Inputs}
-use Rattle.rule_laws.specs.Lookup.{find, first, mapped, find-append, find-map}
-use Rattle.rule_laws.specs.Outcome.{names-kept}
+use Rattle.rule_laws.specs.LookupLaws.{find, first, mapped, find-append, find-map}
+use Rattle.rule_laws.specs.OutcomeLaws.{names-kept}
 use Rattle.rules.specs.Records.{Names, Cache, Pair}
-use Rattle.rule_laws.specs.Replay.{Sound, sound-find, call-sound, empty-sound, passEnd, step-graph, bits, end-find, end-none}
+use Rattle.rule_laws.specs.ReplayLaws.{Sound, sound-find, call-sound, empty-sound, passEnd, step-graph, bits, end-find, end-none}
 use Rattle.rules.specs.Runs as rules
 use Rattle.rules.specs.Runs.{unlessRefused, plainCall, named, keepsGenerating, ProvisosAt, Provisos}
-use Rattle.rule_laws.specs.Settling.{outcomeOf}
+use Rattle.rule_laws.specs.SettlingLaws.{outcomeOf}
 use Rattle.rules.specs.Sides.{overlap, interact, Side, sideOf}
 use Rattle.rules.specs.Recycling.{recycles}
 use Rattle.rules.specs.Solver.{Write, pairWritten, plainWrite, plainWrites}
 use Rattle.rule_laws.specs.SolverLaws.{written-kept}
-use Rattle.rules.specs.Status.{plainStep}
+use Rattle.rules.specs.Status.{plainStep, Verdict, vanishes, starts, stops, generates, recounts, persists, verdict, next}
 use Rattle.rule_laws.specs.Stripped.{stripped}
 use Rattle.rules.specs.Update.{aabbsDisjoint, bodyOf, disjoint, recycledPair, enabled, renewedFlags, renewed, overlapping, updatedBetween, Updated, updated}
-use Rattle.rule_laws.specs.Visit.{Verdict, vanishes, starts, stops, generates, recounts, persists, verdict, next}
 use Rattle.contact_graph.specs.Calls.{optional, additionOf}
 use Rattle.contact_graph.specs.declared.call.Request.{Request}
 use Rattle.step.specs.Step.{inputs}
@@ -36,12 +35,12 @@ use Rattle.contact_runs.specs.Solver.{plainOfWrite}
 -- ---- a step that gives each collider a body, and none is a sensor, turns no pair from generating to not
 abbrev pub Solid : (ℕ → Option Body) → Option Collider → Type 0
 Solid body none = Unit {0}
-Solid body (some c) = (sideOf c (bodyOf body (c .body)) .here ≡ true) × (c .sensor ≡ false)
+Solid body (some c) = (sideOf c (bodyOf body (c .body)) .present ≡ true) × (c .sensor ≡ false)
 
 abbrev pub AllSolid : Inputs → Type 0
 AllSolid i = (n : ℕ) → Solid (i .body) (i .collider n)
 
-both-enabled : (c1 c2 : Collider) (a b : Side) → a .here ≡ true → b .here ≡ true → c1 .sensor ≡ false → c2 .sensor ≡ false → T (enabled c1 c2 a b)
+both-enabled : (c1 c2 : Collider) (a b : Side) → a .present ≡ true → b .present ≡ true → c1 .sensor ≡ false → c2 .sensor ≡ false → T (enabled c1 c2 a b)
 unfolding enabled
 both-enabled c1 c2 a b p q r s = subst T (λ i. (sym p i && sym q i) && (not (sym r i) && not (sym s i))) tt
 

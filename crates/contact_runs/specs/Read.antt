@@ -9,7 +9,8 @@ use Rattle.rules.specs.Status.{Event, started, ended, Change, start, stop, coun
 use Rattle.words.specs.Words.{wordAt}
 use Rattle.contact_records.specs.Recorded.{intOf}
 use Rattle.contact_graph.specs.Calls.{optional}
-use Rattle.status_pass.specs.EventsAndChanges.{eventSize, changeSize}
+use Rattle.layout.specs.Change.{changeBody1, changeBody2, changeContact, changeCount, changeSize}
+use Rattle.layout.specs.Event.{eventBody1, eventBody2, eventCollider1, eventCollider2, eventContact, eventSize}
 use Rattle.step.specs.declared.answer.StepAnswer.{StepAnswer}
 use Rattle.step.specs.declared.answer.StepAnswer.the-variants as answer
 
@@ -17,11 +18,11 @@ use Rattle.step.specs.declared.answer.StepAnswer.the-variants as answer
 abbrev pub namesAt : List ℕ → ℕ → Names
 namesAt row at =
     record {
-      id = wordAt row (at + 1);
-      collider1 = wordAt row (at + 2);
-      collider2 = wordAt row (at + 3);
-      body1 = optional (wordAt row (at + 4)) (wordAt row (at + 5));
-      body2 = optional (wordAt row (at + 6)) (wordAt row (at + 7));
+      id = wordAt row (at + eventContact);
+      collider1 = wordAt row (at + eventCollider1);
+      collider2 = wordAt row (at + eventCollider2);
+      body1 = optional (wordAt row (at + eventBody1)) (wordAt row (at + (eventBody1 + 1)));
+      body2 = optional (wordAt row (at + eventBody2)) (wordAt row (at + (eventBody2 + 1)));
     }
 
 unfoldable pub eventAt : List ℕ → ℕ → Event
@@ -30,9 +31,9 @@ eventAt row at = cond (eqb (wordAt row at) 0) (started (namesAt row at)) (ended 
 -- ---- a change: its kind, the contact's id, its bodies, the change of the count
 unfoldable pub changeAt : List ℕ → ℕ → Change
 changeAt row at =
-    cond (eqb (wordAt row at) 0) (start (wordAt row (at + 1)))
-    (cond (eqb (wordAt row at) 1) (stop (wordAt row (at + 1)) (wordAt row (at + 2)) (wordAt row (at + 3)))
-    (count (wordAt row (at + 1)) (wordAt row (at + 2)) (wordAt row (at + 3)) (intOf (wordAt row (at + 4)))))
+    cond (eqb (wordAt row at) 0) (start (wordAt row (at + changeContact)))
+    (cond (eqb (wordAt row at) 1) (stop (wordAt row (at + changeContact)) (wordAt row (at + changeBody1)) (wordAt row (at + changeBody2)))
+    (count (wordAt row (at + changeContact)) (wordAt row (at + changeBody1)) (wordAt row (at + changeBody2)) (intOf (wordAt row (at + changeCount)))))
 
 -- ---- as many as the report says, from the row's start on
 abbrev pub eventsOf : StepAnswer → List ℕ → List Event

@@ -17,20 +17,21 @@ use Rattle.rows.specs.Laws.{put-paste}
 use Rattle.rows.specs.Rows.{put, each}
 use Rattle.rows.specs.Slots.{upto}
 use Rattle.rules.specs.Records.{Names, Pair}
-use Rattle.rules.specs.Status.{Event, started, ended, Change, start, stop, count, stopIf, countOf}
-use Rattle.rule_laws.specs.Visit.{Verdict, vanishes, starts, stops, generates, recounts, persists, verdict, changesFor}
+use Rattle.rules.specs.Status.{Event, started, ended, Change, start, stop, count, stopIf, countOf, Verdict, vanishes, starts, stops, generates, recounts, persists, verdict, changesFor}
 use Rattle.words.specs.Words.{wordAt}
-use Rattle.manifold_records.specs.Lists.{map-upto-is}
-use Rattle.contact_records.specs.Ints.{int-back, int-fits}
-use Rattle.contact_records.specs.Layout as place
+use Rattle.manifold_records.specs.ListLaws.{map-upto-is}
+use Rattle.contact_records.specs.IntLaws.{int-back, int-fits}
+use Rattle.layout.specs.Change.{changeSize}
+use Rattle.layout.specs.Contact.{contactCountChange}
+use Rattle.layout.specs.Event.{eventSize}
 use Rattle.contact_records.specs.Recorded.{intOf, pairAt}
 use Rattle.contact_records.specs.Written.{optionalWords}
 use Rattle.contact_range.specs.Recorded.{contactAt}
 use Rattle.contact_graph.specs.Calls.{optional}
 use Rattle.status_pass.specs.Pass.{Passing, visitedPair, begun, visitWords, passWords}
 use Rattle.status_pass.specs.PassLaws.{pass-events, pass-changes}
-use Rattle.status_pass.specs.EventsAndChanges.{eventSize, namedWords, eventWords, changeSize, changeWords}
-use Rattle.step.specs.Accepted.{accepted}
+use Rattle.status_pass.specs.EventsAndChanges.{namedWords, eventWords, changeWords}
+use Rattle.step.specs.AcceptedLaws.{accepted}
 use Rattle.step.specs.Step as step
 use Rattle.step.specs.Step.{Given, Rows, stepRefusal, madeOf, updatedGraph, passOf, rowsOf, answerOf, plainAnswer}
 use Rattle.step.specs.StepLaws.{rows-ready}
@@ -179,7 +180,7 @@ small-changesFor persists p f = tt
 -- a contact's number is read from a word
 small-read : (g : List ℕ) (id : ℕ) → SFits w32 (visitedPair g id .countChange)
 unfolding pairAt
-small-read g id = int-fits (wordAt g (contactAt g id + place.countChangePlace))
+small-read g id = int-fits (wordAt g (contactAt g id + contactCountChange))
 
 small-pass : (s : Passing) (ids : List ℕ) → Small (s .changes) → Small (passWords s ids .changes)
 unfolding passWords visitWords

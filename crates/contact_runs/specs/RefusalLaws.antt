@@ -9,18 +9,18 @@ use Rattle.rows.specs.Slots.{upto}
 use Rattle.rules.specs.Numbers.{every, any}
 use Rattle.rule_laws.specs.NumberLaws.{every-same}
 use Rattle.rules.specs.Records.{Pair}
-use Rattle.manifold_records.specs.Lists.{length-map-upto}
+use Rattle.manifold_records.specs.ListLaws.{length-map-upto}
 use Rattle.contact_records.specs.Recorded.{namesAt, pairAt}
 use Rattle.collider.specs.Range.{settingsFit, collidersFit, bodiesFit}
-use Rattle.contact_graph.specs.AddedGraph.{listedPair}
+use Rattle.contact_graph.specs.AddedGraphLaws.{listedPair}
 use Rattle.contact_graph.specs.Calls.{requestFits, pairStands, addRefusal}
 use Rattle.contact_range.specs.Checked.{Checked}
 use Rattle.contact_range.specs.Range.{rightLength, inRange, stands, sameColliders}
 use Rattle.contact_range.specs.RangeLaws.{holds, in-range-test}
-use Rattle.contact_range.specs.RangeShown.{right-length-test}
+use Rattle.contact_range.specs.RangeShownLaws.{right-length-test}
 use Rattle.contact_range.specs.Recorded.{capacityOf, listedCount, graphOf}
 use Rattle.contact_graph.specs.declared.call.Request.{Request}
-use Rattle.proposals.specs.Layout.{proposalSize}
+use Rattle.layout.specs.Proposal.{proposalSize}
 use Rattle.proposals.specs.Range.{hookFits, proposalFits}
 use Rattle.shares.specs.Shares.{totalOf, entryAt, times, countsFit, entriesStand, activeOnce, sharesFit}
 use Rattle.step.specs.Step.{Given, Rows, givenLong, rowsLong, lengthsFit, hooksFit, numbersFit, rowsInRange, proposalsFit, stepRefusal}

@@ -11,9 +11,9 @@ use Rattle.collider.specs.Range.{settingsFit, collidersFit, bodiesFit}
 use Rattle.contact_graph.specs.Calls.{requestFits}
 use Rattle.contact_range.specs.Range.{sameColliders}
 use Rattle.contact_graph.specs.declared.call.Request.{Request}
-use Rattle.proposals.specs.Layout.{proposalSize}
+use Rattle.rules.specs.Limits.{mostWorkers}
+use Rattle.layout.specs.Proposal.{proposalSize}
 use Rattle.proposals.specs.Range.{hookFits, proposalFits}
-use Rattle.shares.specs.Layout.{mostWorkers}
 use Rattle.shares.specs.Shares.{workersOf, totalOf, entryAt, times}
 use Rattle.step.specs.Step.{Given, Rows, givenLong, rowsLong}
 

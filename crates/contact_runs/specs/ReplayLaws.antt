@@ -8,13 +8,14 @@ use mathlib.Core.Option.{none}
 use borrow.Author.Tests.{eqb-true, eqb-false}
 use lib.Dec.{eqb, eqb·suc-zero}
 use lib.ListN.{length}
-use Rattle.rule_laws.specs.Answers.{answers-replay-holds}
+use Rattle.rule_laws.specs.AnswerLaws.{answers-replay-holds}
 use Rattle.rules.specs.Graph.{Graph, emptyGraph, plainAdd, newId}
 use Rattle.rules.specs.Records.{Pair}
-use Rattle.rule_laws.specs.Replay.{Sound, empty-sound, sound-room, call-sound}
-use Rattle.rules.specs.Runs.{Answer, added, stepped, After, unlessRefused, plainCall, plainRun, plainGraph, Held, replay, replayAnswer, replayAnswers, heldIn, Provisos, RoomAt, Room}
+use Rattle.rule_laws.specs.ReplayLaws.{Sound, empty-sound, sound-room, call-sound}
+use Rattle.rules.specs.Runs.{Answer, added, stepped, After, unlessRefused, plainCall, plainRun, plainGraph, Held, replay, heldIn, Provisos}
+use Rattle.rule_laws.specs.Replayed.{replayAnswer, replayAnswers, RoomAt, Room}
 use Rattle.rules.specs.Status.{Change, plainStep}
-use Rattle.contact_graph.specs.AddedGraph.{passed}
+use Rattle.contact_graph.specs.AddedGraphLaws.{passed}
 use Rattle.contact_graph.specs.Calls.{additionOf, requestFits}
 use Rattle.contact_range.specs.Checked.{Checked}
 use Rattle.contact_range.specs.Range.{sameColliders}

@@ -11,7 +11,7 @@ use Rattle.rules.specs.Graph.{Graph, plainAdd, newId}
 use Rattle.rules.specs.Runs as rules
 use Rattle.rules.specs.Runs.{unlessRefused, plainCall, plainRun}
 use Rattle.rules.specs.Status.{Event, Change, plainStep}
-use Rattle.contact_graph.specs.AddedGraph.{added-in-range, added-id, added-graph}
+use Rattle.contact_graph.specs.AddedGraphLaws.{added-in-range, added-id, added-graph}
 use Rattle.contact_graph.specs.Calls.{additionOf, addRefusal, newIdOf, addedWords}
 use Rattle.contact_range.specs.Checked.{Checked}
 use Rattle.contact_graph.specs.Promises as graph

@@ -9,7 +9,9 @@ use Rattle.rows.specs.Rows.{put}
 use Rattle.rules.specs.Solver as rules
 use Rattle.rules.specs.Solver.{Impulse, normalImpulse, warmStartNormalImpulse, warmStartTangentImpulseX, warmStartTangentImpulseY}
 use Rattle.words.specs.Words.{wordAt}
-use Rattle.contact_records.specs.Layout as place
+use Rattle.layout.specs.Contact.{contactManifolds}
+use Rattle.layout.specs.Manifold.{manifoldSize}
+use Rattle.layout.specs.Point.{pointNormalImpulse, pointWarmStartNormalImpulse, pointWarmStartTangentImpulse}
 use Rattle.contact_range.specs.Recorded.{contactAt}
 use Rattle.contact_range.specs.Range.{stands}
 use Rattle.contact_graph.specs.Impulses.{storedPointPlace}
@@ -24,16 +26,16 @@ pub record Write : Type 0 where
 
 -- the word of a point that holds the impulse
 abbrev pub impulsePlace : Impulse → ℕ
-impulsePlace normalImpulse = place.normalImpulsePlace
-impulsePlace warmStartNormalImpulse = place.warmNormalPlace
-impulsePlace warmStartTangentImpulseX = place.warmTangentPlace
-impulsePlace warmStartTangentImpulseY = place.warmTangentPlace + 1
+impulsePlace normalImpulse = pointNormalImpulse
+impulsePlace warmStartNormalImpulse = pointWarmStartNormalImpulse
+impulsePlace warmStartTangentImpulseX = pointWarmStartTangentImpulse
+impulsePlace warmStartTangentImpulseY = pointWarmStartTangentImpulse + 1
 
 -- it names a stored point of a standing contact
 unfoldable pub stored : List ℕ → Write → Bool
 stored g w =
-    let at = contactAt g (w .contact) + place.manifoldsPlace in
-    stands g (w .contact) && (ltb (w .manifold) (wordAt g at) && ltb (w .point) (wordAt g (at + 1 + w .manifold * place.manifoldSize)))
+    let at = contactAt g (w .contact) + contactManifolds in
+    stands g (w .contact) && (ltb (w .manifold) (wordAt g at) && ltb (w .point) (wordAt g (at + 1 + w .manifold * manifoldSize)))
 
 abbrev pub writtenPlace : List ℕ → Write → ℕ
 writtenPlace g w = contactAt g (w .contact) + storedPointPlace (w .manifold) (w .point) + impulsePlace (w .impulse)

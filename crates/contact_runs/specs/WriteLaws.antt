@@ -20,23 +20,25 @@ use Rattle.rows.specs.SlotLaws.{slots-apart, slot-fits}
 use Rattle.rules.specs.Matching.{withPoints}
 use Rattle.rules.specs.Records.{Manifold}
 use Rattle.rules.specs.Solver.{Impulse, normalImpulse, warmStartNormalImpulse, warmStartTangentImpulseX, warmStartTangentImpulseY, pointWith, pointWritten, changedAt, manifoldWritten, withManifolds, pairWritten, withPairs, plainWrite, plainWrites}
-use Rattle.rule_laws.specs.Lookup.{Test, same, other, test}
+use Rattle.rule_laws.specs.LookupLaws.{Test, same, other, test}
 use Rattle.rule_laws.specs.SolverLaws.{changed-past}
 use Rattle.words.specs.Words.{wordAt}
 use Rattle.manifold_records.specs.Counts.{Counted}
-use Rattle.manifold_records.specs.Lists.{map-upto-same, length-map-upto}
+use Rattle.manifold_records.specs.ListLaws.{map-upto-same, length-map-upto}
 use Rattle.manifold_records.specs.Recorded.{pointAt, pointsAt, manifoldAt, manifoldsAt}
-use Rattle.contact_records.specs.Apart.{vec3-same, point-same, manifold-same, names-same, edge-same, flags-same, cache-same, pair-apart}
-use Rattle.contact_records.specs.Held.{Same, same-in, word-same, first-same, same-put}
-use Rattle.contact_records.specs.Layout as record-place
+use Rattle.contact_records.specs.ApartLaws.{vec3-same, point-same, manifold-same, names-same, edge-same, flags-same, cache-same, pair-apart}
+use Rattle.contact_records.specs.HeldLaws.{Same, same-in, word-same, first-same, same-put}
+use Rattle.layout.specs.Contact.{contactManifolds, contactSize}
+use Rattle.layout.specs.Graph.{contactPlace, graphContacts}
+use Rattle.layout.specs.Manifold.{manifoldPoints, manifoldSize}
+use Rattle.layout.specs.Point.{pointNormalImpulse, pointNormalSpeed, pointSize, pointWarmStartTangentImpulse}
 use Rattle.contact_records.specs.Recorded.{intOf, namesAt, pairAt}
 use Rattle.contact_range.specs.Checked.{Checked}
-use Rattle.contact_range.specs.Layout as place
 use Rattle.contact_range.specs.Range.{stands}
 use Rattle.contact_range.specs.RangeLaws.{first-of, rest-of, listed-below, stands-at, standing-below, standing-fits}
 use Rattle.contact_range.specs.Recorded.{capacityOf, listedCount, freeCount, listedAt, freeAt, contactAt, graphOf}
-use Rattle.contact_graph.specs.AddedGraph.{listedPair, listed-counted}
-use Rattle.contact_graph.specs.Effects.{differ, same-or-not}
+use Rattle.contact_graph.specs.AddedGraphLaws.{listedPair, listed-counted}
+use Rattle.contact_graph.specs.EffectLaws.{differ, same-or-not}
 use Rattle.contact_graph.specs.ImpulseLaws.{map-map, capacity-kept, given-kept, listed-kept, freed-kept, listed-at, free-at, first-words, manifold-run, stands-kept, impulses-in-range, impulses-then, impulses-none, impulse-put}
 use Rattle.contact_graph.specs.Impulses.{storedPointPlace, ImpulseAt, ImpulsesWritten}
 use Rattle.contact_runs.specs.Solver.{Write, impulsePlace, stored, writtenPlace, writeWord, writeWords, plainOfWrite}
@@ -71,19 +73,19 @@ module _ {ℓ} {A : Type ℓ} (f : A → A) where
       ∙ ap (changedAt n f) (sym (map-append a (upto count) (count ∷ [])))
 
 -- ---- one word of a point
-impulse-least : (i : Impulse) → record-place.normalImpulsePlace ≤ impulsePlace i
+impulse-least : (i : Impulse) → pointNormalImpulse ≤ impulsePlace i
 impulse-least normalImpulse = lit≤ tt
 impulse-least warmStartNormalImpulse = lit≤ tt
 impulse-least warmStartTangentImpulseX = lit≤ tt
 impulse-least warmStartTangentImpulseY = lit≤ tt
 
-impulse-most : (i : Impulse) → impulsePlace i ≤ record-place.warmTangentPlace + 1
+impulse-most : (i : Impulse) → impulsePlace i ≤ pointWarmStartTangentImpulse + 1
 impulse-most normalImpulse = lit≤ tt
 impulse-most warmStartNormalImpulse = lit≤ tt
 impulse-most warmStartTangentImpulseX = lit≤ tt
 impulse-most warmStartTangentImpulseY = lit≤ tt
 
-impulse-unlike : (i : Impulse) → impulsePlace i ≢ record-place.normalSpeedPlace
+impulse-unlike : (i : Impulse) → impulsePlace i ≢ pointNormalSpeed
 impulse-unlike normalImpulse e = omega arith
 impulse-unlike warmStartNormalImpulse e = omega arith
 impulse-unlike warmStartTangentImpulseX e = omega arith
@@ -118,7 +120,7 @@ module _ (g : List ℕ) (at v : ℕ) where
   put-new : (o : ℕ) → at + o < length g → wordAt (put g (at + o) (v ∷ [])) (at + o) ≡ v
   put-new o l = ap (wordAt (put g (at + o) (v ∷ []))) (sym (add-zero (at + o))) ∙ getD-put g (at + o) (v ∷ []) 0 0 (omega arith) (omega arith)
 
-  point-put : (i : Impulse) → at + record-place.pointSize ≤ length g → pointAt (put g (at + impulsePlace i) (v ∷ [])) at ≡ pointWritten i (ofBits binary32 v) (pointAt g at)
+  point-put : (i : Impulse) → at + pointSize ≤ length g → pointAt (put g (at + impulsePlace i) (v ∷ [])) at ≡ pointWritten i (ofBits binary32 v) (pointAt g at)
   unfolding pointWritten pointAt
   point-put normalImpulse l =
       point-words (same-put g (at + 11) (v ∷ []) at 11 (inl (omega arith))) (put-still 11 12 (inr (lit≤ tt))) (put-still 11 16 (inr (lit≤ tt))) (put-still 11 17 (inr (lit≤ tt)))
@@ -134,17 +136,17 @@ module _ (g : List ℕ) (at v : ℕ) where
       (put-still 15 11 (inl (lit≤ tt))) (put-still 15 13 (inl (lit≤ tt))) (put-still 15 14 (inl (lit≤ tt))) (put-new 15 (omega arith))
 
 -- ---- a contact's record that begins at that place, with one impulse written
-module _ (g : List ℕ) (at : ℕ) (w : Write) (n : Counted g (at + record-place.manifoldsPlace)) (counted : w .manifold < wordAt g (at + record-place.manifoldsPlace))
-    (held : w .point < wordAt g (at + record-place.manifoldsPlace + 1 + w .manifold * record-place.manifoldSize)) (room : at + record-place.contactSize ≤ length g)
+module _ (g : List ℕ) (at : ℕ) (w : Write) (n : Counted g (at + contactManifolds)) (counted : w .manifold < wordAt g (at + contactManifolds))
+    (held : w .point < wordAt g (at + contactManifolds + 1 + w .manifold * manifoldSize)) (room : at + contactSize ≤ length g)
     (j : ℕ) (e : j ≡ at + storedPointPlace (w .manifold) (w .point) + impulsePlace (w .impulse)) where
   abbrev written : List ℕ
   written = put g j (w .word ∷ [])
 
   abbrev manifoldOf : ℕ → ℕ
-  manifoldOf m = at + record-place.manifoldsPlace + 1 + m * record-place.manifoldSize
+  manifoldOf m = at + contactManifolds + 1 + m * manifoldSize
 
   abbrev pointOf : ℕ → ℕ
-  pointOf k = manifoldOf (w .manifold) + record-place.pointsPlace + k * record-place.pointSize
+  pointOf k = manifoldOf (w .manifold) + manifoldPoints + k * pointSize
 
   few : w .manifold < 6
   few = omega (arith, n .manifolds)
@@ -163,7 +165,7 @@ module _ (g : List ℕ) (at : ℕ) (w : Write) (n : Counted g (at + record-place
   point-other : (k : ℕ) → k ≢ w .point → pointAt written (pointOf k) ≡ pointAt g (pointOf k)
   point-other k d =
       point-same (same-put g j (w .word ∷ []) (pointOf k) 18
-      (elim (slots-apart (manifoldOf (w .manifold) + record-place.pointsPlace) 18 k (w .point) d) [ inl a ↦ inl (omega (arith, e)) | inr a ↦ inr (omega (arith, e, most)) ]))
+      (elim (slots-apart (manifoldOf (w .manifold) + manifoldPoints) 18 k (w .point) d) [ inl a ↦ inl (omega (arith, e)) | inr a ↦ inr (omega (arith, e, most)) ]))
 
   manifold-own : manifoldAt written (manifoldOf (w .manifold)) ≡ manifoldWritten (plainOfWrite w) (manifoldAt g (manifoldOf (w .manifold)))
   unfolding manifoldAt pointsAt
@@ -171,7 +173,7 @@ module _ (g : List ℕ) (at : ℕ) (w : Write) (n : Counted g (at + record-place
       let s : Same g (manifoldOf (w .manifold)) written (manifoldOf (w .manifold)) 9 = same-put g j (w .word ∷ []) (manifoldOf (w .manifold)) 9 (inl (omega (arith, e))) in
       λ i. record {
         points =
-            (ap (λ (c : ℕ). pointsAt written (manifoldOf (w .manifold) + record-place.pointsPlace) c) (first-same s tt)
+            (ap (λ (c : ℕ). pointsAt written (manifoldOf (w .manifold) + manifoldPoints) c) (first-same s tt)
             ∙ changed-upto (pointWritten (w .impulse) (ofBits binary32 (w .word))) (λ k. pointAt g (pointOf k)) (λ k. pointAt written (pointOf k)) (w .point)
             (wordAt g (manifoldOf (w .manifold))) (λ k l d. point-other k d) (λ l. point-own)) i;
         normal = vec3-same (same-in s 1 3 (lit≤ tt)) i;
@@ -180,10 +182,10 @@ module _ (g : List ℕ) (at : ℕ) (w : Write) (n : Counted g (at + record-place
         tangentVelocity = vec3-same (same-in s 6 3 (lit≤ tt)) i;
       }
 
-  manifold-other : (m : ℕ) → m < wordAt g (at + record-place.manifoldsPlace) → m ≢ w .manifold → manifoldAt written (manifoldOf m) ≡ manifoldAt g (manifoldOf m)
+  manifold-other : (m : ℕ) → m < wordAt g (at + contactManifolds) → m ≢ w .manifold → manifoldAt written (manifoldOf m) ≡ manifoldAt g (manifoldOf m)
   manifold-other m l d =
       manifold-same (n .points m l) (same-put g j (w .word ∷ []) (manifoldOf m) 81
-      (elim (slots-apart (at + record-place.manifoldsPlace + 1) 81 m (w .manifold) d) [ inl a ↦ inl (omega (arith, e)) | inr a ↦ inr (omega (arith, e, most, small)) ]))
+      (elim (slots-apart (at + contactManifolds + 1) 81 m (w .manifold) d) [ inl a ↦ inl (omega (arith, e)) | inr a ↦ inr (omega (arith, e, most, small)) ]))
 
   pair-own : (id : ℕ) → pairAt written at id ≡ withManifolds (pairAt g at id) (changedAt (w .manifold) (manifoldWritten (plainOfWrite w)) (pairAt g at id .manifolds))
   unfolding pairAt manifoldsAt
@@ -197,7 +199,7 @@ module _ (g : List ℕ) (at : ℕ) (w : Write) (n : Counted g (at + record-place
         manifolds =
             (ap (λ (c : ℕ). map (λ k. manifoldAt written (manifoldOf k)) (upto c)) (word-same s 36 tt)
             ∙ changed-upto (manifoldWritten (plainOfWrite w)) (λ k. manifoldAt g (manifoldOf k)) (λ k. manifoldAt written (manifoldOf k)) (w .manifold)
-            (wordAt g (at + record-place.manifoldsPlace)) manifold-other (λ l. manifold-own)) i;
+            (wordAt g (at + contactManifolds)) manifold-other (λ l. manifold-own)) i;
         countChange = intOf (word-same s 18 tt i);
         speculative = ofBits binary32 (word-same s 19 tt i);
         cache = cache-same (same-in s 20 16 (lit≤ tt)) i;
@@ -206,10 +208,10 @@ module _ (g : List ℕ) (at : ℕ) (w : Write) (n : Counted g (at + record-place
 -- ---- a write that names a stored point
 -- where the number of manifolds of its contact stands, and the number of points of its manifold
 abbrev manifoldCountPlace : List ℕ → Write → ℕ
-manifoldCountPlace g w = contactAt g (w .contact) + record-place.manifoldsPlace
+manifoldCountPlace g w = contactAt g (w .contact) + contactManifolds
 
 abbrev pointCountPlace : List ℕ → Write → ℕ
-pointCountPlace g w = manifoldCountPlace g w + 1 + w .manifold * record-place.manifoldSize
+pointCountPlace g w = manifoldCountPlace g w + 1 + w .manifold * manifoldSize
 
 abbrev hasManifold : List ℕ → Write → Bool
 hasManifold g w = ltb (w .manifold) (wordAt g (manifoldCountPlace g w))
@@ -255,7 +257,7 @@ module _ {g : List ℕ} (c : Checked g) (w : Write) (e : stored g w ≡ true) wh
   after = put g (writtenPlace g w) (w .word ∷ [])
 
   -- the impulse stands in the contact's record
-  stored-in : storedPointPlace (w .manifold) (w .point) + impulsePlace (w .impulse) < record-place.contactSize
+  stored-in : storedPointPlace (w .manifold) (w .point) + impulsePlace (w .impulse) < contactSize
   stored-in =
       let f = standing-fits (c .range) (w .contact) (stored-stands g w e) in
       let m = stored-manifold g w e in
@@ -267,14 +269,14 @@ module _ {g : List ℕ} (c : Checked g) (w : Write) (e : stored g w ≡ true) wh
       ≡ cond b (withManifolds (listedPair g p) (changedAt (w .manifold) (manifoldWritten (plainOfWrite w)) (listedPair g p .manifolds))) (listedPair g p)
   stored-pair p l true (same q) =
       let room : contactAt g (listedAt g p) + 523 ≤ length g =
-      slot-fits (place.contactsPlace (capacityOf g)) 523 (capacityOf g) (listedAt g p) (length g) (listed-below (c .range) p l) (omega (arith, c .right .size)) in
+      slot-fits (graphContacts (capacityOf g)) 523 (capacityOf g) (listedAt g p) (length g) (listed-below (c .range) p l) (omega (arith, c .right .size)) in
       pair-own g (contactAt g (listedAt g p)) w (listed-counted (c .range) p l)
-      (subst (λ (i : ℕ). w .manifold < wordAt g (contactAt g i + record-place.manifoldsPlace)) (sym q) (stored-manifold g w e))
-      (subst (λ (i : ℕ). w .point < wordAt g (contactAt g i + record-place.manifoldsPlace + 1 + w .manifold * record-place.manifoldSize)) (sym q) (stored-point g w e))
+      (subst (λ (i : ℕ). w .manifold < wordAt g (contactAt g i + contactManifolds)) (sym q) (stored-manifold g w e))
+      (subst (λ (i : ℕ). w .point < wordAt g (contactAt g i + contactManifolds + 1 + w .manifold * manifoldSize)) (sym q) (stored-point g w e))
       room (writtenPlace g w) (ap (λ (i : ℕ). contactAt g i + storedPointPlace (w .manifold) (w .point) + impulsePlace (w .impulse)) (sym q)) (listedAt g p)
   stored-pair p l false (other d) =
       pair-apart g (writtenPlace g w) (w .word ∷ []) (contactAt g (listedAt g p)) (listedAt g p) (listed-counted (c .range) p l)
-      (elim (slots-apart (place.contactsPlace (capacityOf g)) 523 (listedAt g p) (w .contact) d) [
+      (elim (slots-apart (graphContacts (capacityOf g)) 523 (listedAt g p) (w .contact) d) [
         | inl a ↦ inl (omega arith)
         | inr a ↦ inr (omega (arith, stored-in))
       ])
@@ -283,7 +285,7 @@ module _ {g : List ℕ} (c : Checked g) (w : Write) (e : stored g w ≡ true) wh
   unfolding pairWritten pairAt namesAt
   stored-listed p l =
       ap (λ (i : ℕ). pairAt after (contactAt after i) i) (listed-at c (stored-written g w e) p l)
-      ∙ ap (λ (n : ℕ). pairAt after (place.contactPlace n (listedAt g p)) (listedAt g p)) (capacity-kept c (stored-written g w e))
+      ∙ ap (λ (n : ℕ). pairAt after (contactPlace n (listedAt g p)) (listedAt g p)) (capacity-kept c (stored-written g w e))
       ∙ stored-pair p l (eqb (listedAt g p) (w .contact)) (test (listedAt g p) (w .contact))
 
   stored-mean : graphOf after ≡ plainWrite (plainOfWrite w) (graphOf g)
@@ -317,27 +319,27 @@ module _ (g : List ℕ) (w : Write) (e : stored g w ≡ false) where
   none-manifold n =
       let at = pointCountPlace g w in
       ap (withPoints (manifoldAt g at))
-      (sym (changed-past (pointWritten (w .impulse) (ofBits binary32 (w .word))) (w .point) (pointsAt g (at + record-place.pointsPlace) (wordAt g at))
-      (omega (arith, length-map-upto (λ k. pointAt g (at + record-place.pointsPlace + k * record-place.pointSize)) (wordAt g at)))))
+      (sym (changed-past (pointWritten (w .impulse) (ofBits binary32 (w .word))) (w .point) (pointsAt g (at + manifoldPoints) (wordAt g at))
+      (omega (arith, length-map-upto (λ k. pointAt g (at + manifoldPoints + k * pointSize)) (wordAt g at)))))
 
   none-manifolds : stands g (w .contact) ≡ true → (t : Bool) → hasManifold g w ≡ t
       → manifoldsAt g (manifoldCountPlace g w) ≡ changedAt (w .manifold) (manifoldWritten (plainOfWrite w)) (manifoldsAt g (manifoldCountPlace g w))
   unfolding manifoldsAt
   none-manifolds s true m =
-      let each : ℕ → Manifold = λ k. manifoldAt g (manifoldCountPlace g w + 1 + k * record-place.manifoldSize) in
+      let each : ℕ → Manifold = λ k. manifoldAt g (manifoldCountPlace g w + 1 + k * manifoldSize) in
       changed-upto (manifoldWritten (plainOfWrite w)) each each (w .manifold) (wordAt g (manifoldCountPlace g w)) (λ k l d. refl) (λ l. none-manifold (none-held s m))
   none-manifolds s false m =
       let n = ltb-false (w .manifold) (wordAt g (manifoldCountPlace g w)) m in
       sym (changed-past (manifoldWritten (plainOfWrite w)) (w .manifold) (manifoldsAt g (manifoldCountPlace g w))
-      (omega (arith, length-map-upto (λ k. manifoldAt g (manifoldCountPlace g w + 1 + k * record-place.manifoldSize)) (wordAt g (manifoldCountPlace g w)))))
+      (omega (arith, length-map-upto (λ k. manifoldAt g (manifoldCountPlace g w + 1 + k * manifoldSize)) (wordAt g (manifoldCountPlace g w)))))
 
   none-pair : (p : ℕ) → p < listedCount g → (b : Bool) → Test (listedAt g p) (w .contact) b
       → listedPair g p ≡ cond b (withManifolds (listedPair g p) (changedAt (w .manifold) (manifoldWritten (plainOfWrite w)) (listedPair g p .manifolds))) (listedPair g p)
   unfolding pairAt
   none-pair p l true (same q) =
       ap (withManifolds (listedPair g p))
-      (subst (λ (i : ℕ). manifoldsAt g (contactAt g i + record-place.manifoldsPlace)
-      ≡ changedAt (w .manifold) (manifoldWritten (plainOfWrite w)) (manifoldsAt g (contactAt g i + record-place.manifoldsPlace))) (sym q)
+      (subst (λ (i : ℕ). manifoldsAt g (contactAt g i + contactManifolds)
+      ≡ changedAt (w .manifold) (manifoldWritten (plainOfWrite w)) (manifoldsAt g (contactAt g i + contactManifolds))) (sym q)
       (none-manifolds (ap (stands g) (sym q) ∙ stands-at g p l) (hasManifold g w) refl))
   none-pair p l false (other d) = refl
 
@@ -431,7 +433,7 @@ among-all capacity i m k p a b l =
     among-each capacity (λ i. each 6 (λ m. each 4 (λ k. pointNamed i m k))) i a
     (among-each 6 (λ m. each 4 (λ k. pointNamed i m k)) m b (among-each 4 (λ k. pointNamed i m k) k l (among-point i m k p)))
 
-impulse-of : (u : ℕ) → record-place.normalImpulsePlace ≤ u → u ≤ record-place.warmTangentPlace + 1 → u ≢ record-place.normalSpeedPlace → (p : Impulse) × (u ≡ impulsePlace p)
+impulse-of : (u : ℕ) → pointNormalImpulse ≤ u → u ≤ pointWarmStartTangentImpulse + 1 → u ≢ pointNormalSpeed → (p : Impulse) × (u ≡ impulsePlace p)
 impulse-of u a b d =
     elim (differ u 12 d) [
       | inl l ↦ (normalImpulse, omega arith)
@@ -453,14 +455,14 @@ module _ {g h : List ℕ} (c : Checked g) (w : ImpulsesWritten g h) where
 
   module _ {r : List ℕ} (t : ImpulsesWritten g r) where
     place-kept : (v : Write) → writtenPlace r v ≡ writtenPlace g v
-    place-kept v = ap (λ (n : ℕ). place.contactPlace n (v .contact) + storedPointPlace (v .manifold) (v .point) + impulsePlace (v .impulse)) (capacity-kept c t)
+    place-kept v = ap (λ (n : ℕ). contactPlace n (v .contact) + storedPointPlace (v .manifold) (v .point) + impulsePlace (v .impulse)) (capacity-kept c t)
 
     stored-kept : (v : Write) → stored g v ≡ true → stored r (filled v) ≡ true
     unfolding stored
     stored-kept v e =
         let few : v .manifold < 6 = omega (arith, standing-fits (c .range) (v .contact) (stored-stands g v e) .manifolds, stored-manifold g v e) in
         (λ i. stands-kept c t (v .contact) i
-        && (ltb (v .manifold) (first-words c t (v .contact) record-place.manifoldsPlace (omega arith) i) && ltb (v .point) (first-same (manifold-run c t (v .contact) (v .manifold) few) tt i)))
+        && (ltb (v .manifold) (first-words c t (v .contact) contactManifolds (omega arith) i) && ltb (v .point) (first-same (manifold-run c t (v .contact) (v .manifold) few) tt i)))
         ∙ e
 
     -- a stored write leaves h's word at its place
@@ -468,7 +470,7 @@ module _ {g h : List ℕ} (c : Checked g) (w : ImpulsesWritten g h) where
     filled-new v e =
         let k = impulses-in-range c t in
         let room : contactAt r (v .contact) + 523 ≤ length r =
-        slot-fits (place.contactsPlace (capacityOf r)) 523 (capacityOf r) (v .contact) (length r) (standing-below (k .range) (v .contact) (stored-stands r (filled v) e)) (omega (arith, k .right .size)) in
+        slot-fits (graphContacts (capacityOf r)) 523 (capacityOf r) (v .contact) (length r) (standing-below (k .range) (v .contact) (stored-stands r (filled v) e)) (omega (arith, k .right .size)) in
         put-new r (contactAt r (v .contact) + storedPointPlace (v .manifold) (v .point)) (wordAt h (writtenPlace g v)) (impulsePlace (v .impulse)) (omega (arith, stored-in k (filled v) e))
         ∙ ap (wordAt h) (sym (place-kept v))
 

@@ -15,7 +15,3 @@ packedAs kind code = packedIf (ltb code (2 ^ 30)) (kind * 2 ^ 30 + code)
 
 abbrev pub isKind : ℕ → ℕ → Bool
 isKind kind n = eqb (n / 2 ^ 30) kind
-
--- `UNKNOWN`
-abbrev pub isUnknown : ℕ → Bool
-isUnknown n = eqb n 0

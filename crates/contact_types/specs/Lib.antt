@@ -4,8 +4,8 @@ pub mod Refusals
 pub mod RefusalLaws
 pub mod Views
 pub mod Pruned
-pub mod PruneSteps
-pub mod PruneEnd
+pub mod PruneStepLaws
+pub mod PruneEndLaws
 pub mod Prune
-pub mod PruneLoad
+pub mod PruneLoadLaws
 pub mod PruneLaws

@@ -6,7 +6,8 @@ use mathlib.Core.List.{List}
 use lib.Dec.{eqb, ltb}
 use lib.ListN.{length}
 use Rattle.math.specs.declared.vec.Vec3.{Vec3}
-use Rattle.rules.specs.Limits.{storedPoints, proposedPoints}
+use Rattle.layout.specs.Prune.{prunePointPenetration, prunePointSize, prunePointsLength}
+use Rattle.rules.specs.Limits.{proposedPoints, storedPoints}
 use Rattle.rules.specs.Pruning as rules
 use Rattle.words.specs.Words.{floatAt, vec3At}
 use Rattle.contact_types.specs.Refusals.{numberOf}
@@ -18,7 +19,7 @@ use Rattle.contact_types.specs.declared.prune.PruneAnswer.the-variants.{
 
 -- point k of the lent words: anchor 1, then penetration
 abbrev pub prunePointAt : List ℕ → ℕ → rules.PrunePoint
-prunePointAt words k = record { anchor1 = vec3At words (4 * k); penetration = floatAt words (4 * k + 3) }
+prunePointAt words k = record { anchor1 = vec3At words (prunePointSize * k); penetration = floatAt words (prunePointSize * k + prunePointPenetration) }
 
 -- a refusal's number, or the points that stay: the list of their numbers in the order of the output, or the struct that holds it
 pub data Answer (Points : Type 0) : Type 0 where
@@ -28,7 +29,7 @@ pub data Answer (Points : Type 0) : Type 0 where
 -- refusals 1, 8, 6, in that order: a length that is not that of 32 points (short sheet), fewer than 5 points (thin manifold), over 32 points (overfull proposal)
 unfoldable pub pruneAnswer : Vec3 → List ℕ → ℕ → Answer (List ℕ)
 pruneAnswer normal words count =
-    cond (not (eqb (length words) (4 * proposedPoints))) (refused 1)
+    cond (not (eqb (length words) prunePointsLength)) (refused 1)
     (cond (ltb count (storedPoints + 1)) (refused 8)
     (cond (ltb proposedPoints count) (refused 6)
     (keeps (rules.kept normal count (prunePointAt words)))))

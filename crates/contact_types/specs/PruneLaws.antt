@@ -7,7 +7,8 @@ use mathlib.Core.List.{List, [], _∷_, _++_}
 use lib.Dec.{eqb, ltb}
 use lib.ListN.{length}
 use Rattle.math.specs.declared.vec.Vec3.{Vec3}
-use Rattle.rules.specs.Limits.{storedPoints, proposedPoints}
+use Rattle.layout.specs.Prune.{prunePointsLength}
+use Rattle.rules.specs.Limits.{proposedPoints, storedPoints}
 use Rattle.rules.specs.Pruning as rules
 use Rattle.rule_laws.specs.PruningLaws.{kept-four}
 use Rattle.contact_types.specs.Refusals.{numberOf}
@@ -44,7 +45,7 @@ plainAnswer r = numbersOf (answerOf r)
 
 struct-answer : (normal : Vec3) (words : List ℕ) (count : ℕ) → numbersOf (inStruct (pruneAnswer normal words count)) ≡ pruneAnswer normal words count
 unfolding pruneAnswer
-struct-answer normal words count = tests (not (eqb (length words) (4 * proposedPoints))) (ltb count (storedPoints + 1)) (ltb proposedPoints count)
+struct-answer normal words count = tests (not (eqb (length words) prunePointsLength)) (ltb count (storedPoints + 1)) (ltb proposedPoints count)
   where
     tests : (a b c : Bool) → numbersOf (inStruct (cond a (refused 1) (cond b (refused 8) (cond c (refused 6) (keeps (rules.kept normal count (prunePointAt words)))))))
         ≡ cond a (refused 1) (cond b (refused 8) (cond c (refused 6) (keeps (rules.kept normal count (prunePointAt words)))))
@@ -71,7 +72,7 @@ prune-determined normal words count p q = same-by answerOf pruneOf prune-of (p .
 pub prune-answered : (normal : Vec3) (words : List ℕ) (count : ℕ) → (r : PruneAnswer) × Pruned normal words count r
 unfolding pruneAnswer
 prune-answered normal words count =
-    let a = tests (not (eqb (length words) (4 * proposedPoints))) (ltb count (storedPoints + 1)) (ltb proposedPoints count) in
+    let a = tests (not (eqb (length words) prunePointsLength)) (ltb count (storedPoints + 1)) (ltb proposedPoints count) in
     (a .0, record { answer = a .1 })
   where
     tests : (a b c : Bool) → (r : PruneAnswer) × (answerOf r ≡ inStruct (cond a (refused 1) (cond b (refused 8) (cond c (refused 6) (keeps (rules.kept normal count (prunePointAt words)))))))

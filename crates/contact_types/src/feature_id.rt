@@ -1,7 +1,7 @@
 // The number of a geometric feature: a vertex, an edge or a face, its kind in the two highest bits. From avian's feature_id.rs.
 ghost use mathlib.Core.Path.{_≡_};
 ghost use Prim.Native.Nat.{_≤_};
-ghost use Rattle.contact_types.specs.Features.{packedAs, isKind, isUnknown};
+ghost use Rattle.contact_types.specs.Features.{packedAs, isKind};
 
 pub struct PackedFeatureId(pub u32);
 
@@ -60,11 +60,5 @@ impl PackedFeatureId {
         ensures { λ r. ⌜ r ≡ isKind 3 (self .0) ⌝ }
     {
         self.0 / 0x4000_0000 == 3
-    }
-
-    pub fn is_unknown(self) -> bool
-        ensures { λ r. ⌜ r ≡ isUnknown (self .0) ⌝ }
-    {
-        self.0 == PackedFeatureId::UNKNOWN.0
     }
 }

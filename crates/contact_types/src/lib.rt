@@ -3,7 +3,6 @@ pub mod contact_id;
 pub mod contact_manifold;
 pub mod contact_point;
 pub mod feature_id;
-pub mod limits;
 pub mod matching;
 pub mod prune;
 pub mod pruning;

@@ -4,7 +4,9 @@ ghost use mathlib.Core.List.{_∷_, _++_};
 ghost use Prim.Native.Nat.{_≤_, _<_};
 ghost use Rattle.math.specs.Vec.{dot, _-v_};
 ghost use Rattle.rules.specs.Pruning.{projected, weight, point1, point2, kept};
+ghost use Rattle.rules.specs.Limits.{proposedPoints};
 ghost use Rattle.contact_types.specs.Pruned.{prunePointOf, projectedOf, pointBy, projectedBy, AllProjected, numbered, listedNumber, overtaking, undertaking, keptStruct, SidesFound};
+use layout::limits::PROPOSED_POINTS;
 use math::choose::maximum;
 use math::constants::LOWEST;
 use math::constants::TINY;
@@ -55,15 +57,19 @@ fn project(p: PrunePoint, normal: Vec3) -> Projected
     }
 }
 
-fn project_all(points: [PrunePoint; 32], count: usize, normal: Vec3) -> [Projected; 32]
-    requires { ⌜ count ≤ 32 ⌝ }
+fn project_all(
+    points: [PrunePoint; PROPOSED_POINTS],
+    count: usize,
+    normal: Vec3,
+) -> [Projected; PROPOSED_POINTS]
+    requires { ⌜ count ≤ proposedPoints ⌝ }
     ensures { λ r. ⌜ AllProjected normal points r count ⌝ }
 {
     let none = Projected {
         point: Vec3::ZERO,
         depth: 0.0,
     };
-    let mut ps = [none; 32];
+    let mut ps = [none; PROPOSED_POINTS];
     let mut k = 0;
     while k < count {
         let p = points[k];
@@ -105,8 +111,8 @@ fn undertake(l: Lead, among: bool, value: f32, k: u32) -> Lead
 }
 
 // The point of the greatest weight.
-fn first_point(ps: [Projected; 32], count: usize) -> u32
-    requires { ⌜ count ≤ 32 ⌝ }
+fn first_point(ps: [Projected; PROPOSED_POINTS], count: usize) -> u32
+    requires { ⌜ count ≤ proposedPoints ⌝ }
     ensures { λ r. ⌜ r ≡ numbered (point1 count (projectedBy ps)) ⌝ }
 {
     let mut lead = Lead {
@@ -124,8 +130,8 @@ fn first_point(ps: [Projected; 32], count: usize) -> u32
 }
 
 // The point of the greatest weight by distance from the first.
-fn second_point(ps: [Projected; 32], count: usize, i: u32) -> u32
-    requires { ⌜ (count ≤ 32) × (i < count) ⌝ }
+fn second_point(ps: [Projected; PROPOSED_POINTS], count: usize, i: u32) -> u32
+    requires { ⌜ (count ≤ proposedPoints) × (i < count) ⌝ }
     ensures { λ r. ⌜ r ≡ numbered (point2 count (projectedBy ps) i) ⌝ }
 {
     let from = ps[i as usize];
@@ -151,8 +157,14 @@ fn side_value(perp: Vec3, from: Vec3, point: Vec3) -> f32
 }
 
 // The points furthest to either side of the line through the first two.
-fn side_points(ps: [Projected; 32], count: usize, i: u32, j: u32, normal: Vec3) -> Sides
-    requires { ⌜ (count ≤ 32) × (i < count) × (j < count) ⌝ }
+fn side_points(
+    ps: [Projected; PROPOSED_POINTS],
+    count: usize,
+    i: u32,
+    j: u32,
+    normal: Vec3,
+) -> Sides
+    requires { ⌜ (count ≤ proposedPoints) × (i < count) × (j < count) ⌝ }
     ensures { λ r. ⌜ SidesFound normal count (projectedBy ps) i j r ⌝ }
 {
     let from = ps[i as usize];
@@ -220,8 +232,8 @@ fn gather(i: u32, below: u32, j: u32, above: u32) -> KeptPoints
 }
 
 // The points that stay, of two or more.
-pub fn prune_points(points: [PrunePoint; 32], count: usize, normal: Vec3) -> KeptPoints
-    requires { ⌜ (1 < count) × (count ≤ 32) ⌝ }
+pub fn prune_points(points: [PrunePoint; PROPOSED_POINTS], count: usize, normal: Vec3) -> KeptPoints
+    requires { ⌜ (1 < count) × (count ≤ proposedPoints) ⌝ }
     ensures { λ r. ⌜ r ≡ keptStruct (kept normal count (pointBy points)) ⌝ }
 {
     let ps = project_all(points, count, normal);

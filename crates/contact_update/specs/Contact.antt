@@ -9,13 +9,14 @@ use Rattle.rules.specs.Inputs.{Settings}
 use Rattle.rules.specs.Update.{isRecycled, Updated, updated}
 use Rattle.words.specs.Words.{floatWord}
 use Rattle.data_structures.specs.BitVec.{marked}
-use Rattle.collider.specs.Layout.{collidersLength, bodiesLength}
+use Rattle.layout.specs.Body.{bodiesLength}
+use Rattle.layout.specs.Collider.{collidersLength}
+use Rattle.layout.specs.Proposal.{proposalSize}
 use Rattle.collider.specs.Range.{collidersFit}
 use Rattle.contact_records.specs.Recorded.{pairAt}
 use Rattle.contact_range.specs.Checked.{Checked}
 use Rattle.contact_range.specs.Range.{stands}
 use Rattle.contact_range.specs.Recorded.{capacityOf, contactAt}
-use Rattle.proposals.specs.Layout.{proposalSize}
 use Rattle.proposals.specs.Range.{Proposed}
 use Rattle.contact_update.specs.After.{proposalOf, graphAfter, inputsOf}
 use Rattle.contact_update.specs.declared.record.Outcome.{Outcome}

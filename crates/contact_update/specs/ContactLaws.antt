@@ -9,11 +9,11 @@ use Rattle.rows.specs.Rows.{part}
 use Rattle.rows.specs.SlotLaws.{updateAt-lent}
 use Rattle.rules.specs.Inputs.{Settings}
 use Rattle.rules.specs.Update.{isRecycled, Updated}
-use Rattle.contact_records.specs.Layout as record-place
-use Rattle.contact_range.specs.Layout as place
+use Rattle.layout.specs.Contact.{contactSize}
+use Rattle.layout.specs.Graph.{graphContacts}
+use Rattle.layout.specs.Proposal.{proposalSize}
 use Rattle.contact_range.specs.RangeLaws.{Fitting, standing-below, standing-fits}
 use Rattle.contact_range.specs.Recorded.{capacityOf, contactAt}
-use Rattle.proposals.specs.Layout.{proposalSize}
 use Rattle.proposals.specs.Range.{Proposed}
 use Rattle.contact_update.specs.After.{proposalOf, recordAfter, graphAfter}
 use Rattle.contact_update.specs.Contact.{ContactReady, updateOf, OwnUpdated}
@@ -33,9 +33,9 @@ module _ (s : Settings) {colliders bodies proposals g : List ℕ} {id : ℕ} (re
   proposal-room = let w = ready .proposalWords in let b = below in omega arith
 
   abbrev own : List ℕ
-  own = part g (contactAt g id) record-place.contactSize
+  own = part g (contactAt g id) contactSize
 
-  room : contactAt g id + record-place.contactSize ≤ length g
+  room : contactAt g id + contactSize ≤ length g
   room = let r = ready .checked .right in let b = below in omega (arith, r .size)
 
   -- the two parts are as an update asks
@@ -45,7 +45,7 @@ module _ (s : Settings) {colliders bodies proposals g : List ℕ} {id : ℕ} (re
         colliderWords = ready .colliderWords;
         bodyWords = ready .bodyWords;
         proposalWords = ap length e ∙ length-part proposals (id * proposalSize) proposalSize proposal-room;
-        recordWords = ap length f ∙ length-part g (contactAt g id) record-place.contactSize room;
+        recordWords = ap length f ∙ length-part g (contactAt g id) contactSize room;
         colliders-fit = ready .colliders-fit;
         proposed = subst (λ (x : List ℕ). Proposed x 0) (sym e) (ready .proposed);
         record-fits = subst (λ (x : List ℕ). Fitting x 0) (sym f) (record-fitting s colliders bodies proposals id (ready .checked) (ready .standing));
@@ -53,17 +53,17 @@ module _ (s : Settings) {colliders bodies proposals g : List ℕ} {id : ℕ} (re
 
   -- and come back updated
   pub own-updated : (pr w ys : List ℕ) (r : Outcome) {at n : ℕ} → pr ≡ proposalOf proposals id → w ≡ take n (drop at g) → RecordUpdates s colliders bodies pr w ys r
-      → at ≡ contactAt g id → n ≡ record-place.contactSize → OwnUpdated s colliders bodies proposals id g (take at g ++ (ys ++ drop n (drop at g))) r
+      → at ≡ contactAt g id → n ≡ contactSize → OwnUpdated s colliders bodies proposals id g (take at g ++ (ys ++ drop n (drop at g))) r
   unfolding graphAfter recordAfter updateOf
   own-updated pr w ys r {at} {n} e f u p q =
-      let part-own : take n (drop at g) ≡ own = lent-part g at n record-place.contactSize q ∙ ap (λ (a : ℕ). part g a record-place.contactSize) p in
+      let part-own : take n (drop at g) ≡ own = lent-part g at n contactSize q ∙ ap (λ (a : ℕ). part g a contactSize) p in
       let v = subst (λ (x : List ℕ). RecordUpdates s colliders bodies x own ys r) e (subst (λ (x : List ℕ). RecordUpdates s colliders bodies pr x ys r) (f ∙ part-own) u) in
       let made = v .under id in
       let t = standing-fits (ready .checked .range) id (ready .standing) in
       let whole = record-updated s colliders bodies proposals g id (record { manifolds = t .manifolds; points = t .points }) (ready .proposed) in
       let back : ys ≡ change s colliders bodies proposals id (take n (drop at g)) = made .words ∙ ap (change s colliders bodies proposals id) (sym part-own) in
       record {
-        graph = updateAt-lent (place.contactsPlace (capacityOf g)) record-place.contactSize (change s colliders bodies proposals) (change-keeps s colliders bodies proposals) g id at n p q room back;
+        graph = updateAt-lent (graphContacts (capacityOf g)) contactSize (change s colliders bodies proposals) (change-keeps s colliders bodies proposals) g id at n p q room back;
         bit = made .bit ∙ ap (λ (x : Updated). x .bit) whole;
         recycled = made .recycled ∙ ap (λ (x : Updated). isRecycled (x .way)) whole;
         distance = made .distance ∙ ap (λ (x : Updated). x .maxContactDistance) whole;

@@ -20,26 +20,26 @@ use Rattle.rule_laws.specs.NumberLaws.{any-same}
 use Rattle.rules.specs.Update.{Updated, updatedBetween, updated}
 use Rattle.words.specs.Words.{wordAt}
 use Rattle.collider.specs.Recorded.{colliderAt, bodyAt}
-use Rattle.proposals.specs.Layout as proposal-place
+use Rattle.layout.specs.Contact.{contactFlags, contactManifolds, contactSize}
+use Rattle.layout.specs.Graph.{contactPlace, graphContacts}
+use Rattle.layout.specs.Proposal.{proposalSize}
 use Rattle.proposals.specs.Range.{Proposed}
 use Rattle.proposals.specs.Recorded.{proposedPointAt, proposedPointsAt, proposedManifoldAt, proposalAt, hookAt}
 use Rattle.manifold_records.specs.Counts.{Counted}
-use Rattle.manifold_records.specs.Lists.{map-upto-same}
-use Rattle.contact_records.specs.Apart.{row-in, vec3-same, pair-same, pair-part}
+use Rattle.manifold_records.specs.ListLaws.{map-upto-same}
+use Rattle.contact_records.specs.ApartLaws.{row-in, vec3-same, pair-same, pair-part}
 use Rattle.contact_records.specs.Fit.{FitPair}
-use Rattle.contact_records.specs.Held.{Same, same-in, word-same, first-same, part-same, same-back}
-use Rattle.contact_records.specs.Layout as record-place
+use Rattle.contact_records.specs.HeldLaws.{Same, same-in, word-same, first-same, part-same, same-back}
 use Rattle.contact_records.specs.Recorded.{namesAt, pairAt}
-use Rattle.contact_range.specs.Layout as place
 use Rattle.contact_range.specs.Recorded.{capacityOf, givenOf, listedCount, freeCount, listedAt, freeAt, contactAt, graphOf}
 use Rattle.contact_range.specs.Range.{stands, isFree, sameColliders, samePair}
 use Rattle.contact_range.specs.RangeLaws.{RightLength, counts, Fitting, fitting, listed-given, listed-index, listed-fits, standing-fits, standing-below, free-given, free-once, free-not-standing, given-known, pair-once}
-use Rattle.contact_range.specs.RangeShown.{EachInRange, fitting-test, each-in-range}
+use Rattle.contact_range.specs.RangeShownLaws.{EachInRange, fitting-test, each-in-range}
 use Rattle.contact_range.specs.Checked.{Checked}
-use Rattle.contact_graph.specs.Effects.{contact-after, contact-room, same-or-not, word-apart}
+use Rattle.contact_graph.specs.EffectLaws.{contact-after, contact-room, same-or-not, word-apart}
 use Rattle.contact_range.specs.FitsLaws.{fits-same}
-use Rattle.contact_graph.specs.AddedGraph.{right-kept, listedPair, listed-counted}
-use Rattle.contact_graph.specs.RemovedGraph.{pair-id}
+use Rattle.contact_graph.specs.AddedGraphLaws.{right-kept, listedPair, listed-counted}
+use Rattle.contact_graph.specs.RemovedGraphLaws.{pair-id}
 use Rattle.contact_graph.specs.ImpulseLaws.{map-map}
 use Rattle.contact_update.specs.After.{recordUpdated, recordAfter, proposalOf, graphAfter, inputsOf}
 use Rattle.contact_update.specs.Plain.{pairUpdated, plainUpdate}
@@ -72,26 +72,26 @@ module _ {xs ys : List ℕ} where
         points = (ap (proposedPointsAt ys (b + 4)) (first-same s tt) ∙ proposed-points-same (wordAt xs a) l (same-in s 4 384 (lit≤ tt))) i;
       }
 
-  pub proposal-same : {a b : ℕ} → Proposed xs a → Same xs a ys b proposal-place.proposalSize → proposalAt ys b ≡ proposalAt xs a
+  pub proposal-same : {a b : ℕ} → Proposed xs a → Same xs a ys b proposalSize → proposalAt ys b ≡ proposalAt xs a
   unfolding proposalAt
   proposal-same {a} {b} c s =
       let n = wordAt xs (a + 1) in
       ap (λ (m : ℕ). map (λ (k : ℕ). proposedManifoldAt ys (b + 2 + k * 388)) (upto m)) (word-same s 1 tt)
       ∙ map-upto-same _ _ n (λ k h. proposed-manifold-same (c .points k h) (same-in (same-in s 2 2328 (lit≤ tt)) (k * 388) 388 (row-in n 388 6 k h (c .manifolds))))
 
-  pub hook-same : {a b : ℕ} → Same xs a ys b proposal-place.proposalSize → hookAt ys b ≡ hookAt xs a
+  pub hook-same : {a b : ℕ} → Same xs a ys b proposalSize → hookAt ys b ≡ hookAt xs a
   unfolding hookAt
   hook-same s = ap (λ (w : ℕ). eqb w 1) (first-same s tt)
 
 -- ---- a contact's own proposal and record, by themselves
 module _ (proposals : List ℕ) (id : ℕ) where
-  row-same : Same (proposalOf proposals id) 0 proposals (id * proposal-place.proposalSize) proposal-place.proposalSize
-  row-same = same-back (part-same proposals (id * proposal-place.proposalSize) proposal-place.proposalSize)
+  row-same : Same (proposalOf proposals id) 0 proposals (id * proposalSize) proposalSize
+  row-same = same-back (part-same proposals (id * proposalSize) proposalSize)
 
-  pub proposal-part : Proposed (proposalOf proposals id) 0 → proposalAt (proposalOf proposals id) 0 ≡ proposalAt proposals (id * proposal-place.proposalSize)
+  pub proposal-part : Proposed (proposalOf proposals id) 0 → proposalAt (proposalOf proposals id) 0 ≡ proposalAt proposals (id * proposalSize)
   proposal-part q = sym (proposal-same q row-same)
 
-  pub hook-part : hookAt (proposalOf proposals id) 0 ≡ hookAt proposals (id * proposal-place.proposalSize)
+  pub hook-part : hookAt (proposalOf proposals id) 0 ≡ hookAt proposals (id * proposalSize)
   hook-part = sym (hook-same row-same)
 
 module _ (s : Settings) (colliders bodies proposals : List ℕ) where
@@ -99,7 +99,7 @@ module _ (s : Settings) (colliders bodies proposals : List ℕ) where
   abbrev pub change : ℕ → List ℕ → List ℕ
   change i w = recordAfter s colliders bodies (proposalOf proposals i) i w
 
-  pub change-keeps : Keeps record-place.contactSize change
+  pub change-keeps : Keeps contactSize change
   change-keeps i w e = record-length s colliders bodies (proposalOf proposals i) i w ∙ e
 
   abbrev pub after : List ℕ → ℕ → List ℕ
@@ -108,11 +108,11 @@ module _ (s : Settings) (colliders bodies proposals : List ℕ) where
   -- ---- words that stay
   pub graph-length : (g : List ℕ) (id : ℕ) → length (after g id) ≡ length g
   unfolding graphAfter
-  graph-length g id = length-updateAt (place.contactsPlace (capacityOf g)) record-place.contactSize change g id
+  graph-length g id = length-updateAt (graphContacts (capacityOf g)) contactSize change g id
 
-  pub after-word : {g : List ℕ} (id j : ℕ) → RightLength g → id < capacityOf g → (j < contactAt g id) ⊎ (contactAt g id + record-place.contactSize ≤ j) → wordAt (after g id) j ≡ wordAt g j
+  pub after-word : {g : List ℕ} (id j : ℕ) → RightLength g → id < capacityOf g → (j < contactAt g id) ⊎ (contactAt g id + contactSize ≤ j) → wordAt (after g id) j ≡ wordAt g j
   unfolding graphAfter
-  after-word {g} id j r b a = getD-updateAt-apart (place.contactsPlace (capacityOf g)) record-place.contactSize change change-keeps g id j 0 (contact-room r id b) a
+  after-word {g} id j r b a = getD-updateAt-apart (graphContacts (capacityOf g)) contactSize change change-keeps g id j 0 (contact-room r id b) a
 
   pub after-capacity : {g : List ℕ} (id : ℕ) → RightLength g → id < capacityOf g → capacityOf (after g id) ≡ capacityOf g
   after-capacity id r b = after-word id 0 r b (inl (omega (arith, contact-after r id)))
@@ -121,14 +121,14 @@ module _ (s : Settings) (colliders bodies proposals : List ℕ) where
   pub updates-commute : {g : List ℕ} (i j : ℕ) → RightLength g → i ≢ j → i < capacityOf g → j < capacityOf g → after (after g i) j ≡ after (after g j) i
   unfolding graphAfter
   updates-commute {g} i j r n a b =
-      let base = place.contactsPlace (capacityOf g) in
-      ap (λ (c : ℕ). updateAt (place.contactsPlace c) record-place.contactSize change (after g i) j) (after-capacity i r a)
-      ∙ updateAt-comm base record-place.contactSize change change-keeps g i j (contact-room r i a) (contact-room r j b) n
-      ∙ ap (λ (c : ℕ). updateAt (place.contactsPlace c) record-place.contactSize change (after g j) i) (sym (after-capacity j r b))
+      let base = graphContacts (capacityOf g) in
+      ap (λ (c : ℕ). updateAt (graphContacts c) contactSize change (after g i) j) (after-capacity i r a)
+      ∙ updateAt-comm base contactSize change change-keeps g i j (contact-room r i a) (contact-room r j b) n
+      ∙ ap (λ (c : ℕ). updateAt (graphContacts c) contactSize change (after g j) i) (sym (after-capacity j r b))
 
   -- ---- one contact's record
   abbrev pub recordOf : List ℕ → ℕ → List ℕ
-  recordOf g id = part g (contactAt g id) record-place.contactSize
+  recordOf g id = part g (contactAt g id) contactSize
 
   module _ {g : List ℕ} (id : ℕ) (c : Checked g) (st : stands g id ≡ true) where
     abbrev h : List ℕ
@@ -137,8 +137,8 @@ module _ (s : Settings) (colliders bodies proposals : List ℕ) where
     below : id < capacityOf g
     below = standing-below (c .range) id st
 
-    pub record-size : length (recordOf g id) ≡ record-place.contactSize
-    record-size = length-part g (contactAt g id) record-place.contactSize (contact-room (c .right) id below)
+    pub record-size : length (recordOf g id) ≡ contactSize
+    record-size = length-part g (contactAt g id) contactSize (contact-room (c .right) id below)
 
     -- the words before the records
     pub head-kept : (j : ℕ) → j < 4 + 2 * capacityOf g → wordAt h j ≡ wordAt g j
@@ -163,22 +163,22 @@ module _ (s : Settings) (colliders bodies proposals : List ℕ) where
     free-at k l = let n = counts (c .range) in ap (λ (m : ℕ). wordAt h (4 + m + k)) capacity-kept ∙ head-kept (4 + capacityOf g + k) (omega arith)
 
     -- the records of the others, and the contact's own
-    pub other-word : (i o : ℕ) → i ≢ id → o < record-place.contactSize → wordAt h (contactAt h i + o) ≡ wordAt g (contactAt g i + o)
+    pub other-word : (i o : ℕ) → i ≢ id → o < contactSize → wordAt h (contactAt h i + o) ≡ wordAt g (contactAt g i + o)
     other-word i o n l =
-        ap (λ (m : ℕ). wordAt h (place.contactPlace m i + o)) capacity-kept
+        ap (λ (m : ℕ). wordAt h (contactPlace m i + o)) capacity-kept
         ∙ after-word id (contactAt g i + o) (c .right) below (word-apart (4 + 2 * capacityOf g) i id o n l)
 
-    own-part : part h (contactAt g id) record-place.contactSize ≡ change id (recordOf g id)
+    own-part : part h (contactAt g id) contactSize ≡ change id (recordOf g id)
     unfolding graphAfter
-    own-part = part-updateAt-same (place.contactsPlace (capacityOf g)) record-place.contactSize change change-keeps g id (contact-room (c .right) id below)
+    own-part = part-updateAt-same (graphContacts (capacityOf g)) contactSize change change-keeps g id (contact-room (c .right) id below)
 
-    pub own-word : (o : ℕ) → o < record-place.contactSize → wordAt h (contactAt h id + o) ≡ wordAt (change id (recordOf g id)) o
+    pub own-word : (o : ℕ) → o < contactSize → wordAt h (contactAt h id + o) ≡ wordAt (change id (recordOf g id)) o
     own-word o l =
-        ap (λ (m : ℕ). wordAt h (place.contactPlace m id + o)) capacity-kept ∙ sym (getD-part h (contactAt g id) record-place.contactSize o 0 l)
+        ap (λ (m : ℕ). wordAt h (contactPlace m id + o)) capacity-kept ∙ sym (getD-part h (contactAt g id) contactSize o 0 l)
         ∙ ap (λ (ws : List ℕ). wordAt ws o) own-part
 
     -- what any record names, and its place in the list
-    pub names-kept : (i o : ℕ) → o < record-place.flagsPlace → wordAt h (contactAt h i + o) ≡ wordAt g (contactAt g i + o)
+    pub names-kept : (i o : ℕ) → o < contactFlags → wordAt h (contactAt h i + o) ≡ wordAt g (contactAt g i + o)
     names-kept i o l =
         elim (same-or-not i id) [
           | inl e ↦ subst (λ (k : ℕ). wordAt h (contactAt h k + o) ≡ wordAt g (contactAt g k + o)) (sym e) own
@@ -188,9 +188,9 @@ module _ (s : Settings) (colliders bodies proposals : List ℕ) where
         own : wordAt h (contactAt h id + o) ≡ wordAt g (contactAt g id + o)
         own =
             own-word o (omega arith) ∙ record-names s colliders bodies (proposalOf proposals id) id (recordOf g id) o l
-            ∙ getD-part g (contactAt g id) record-place.contactSize o 0 (omega arith)
+            ∙ getD-part g (contactAt g id) contactSize o 0 (omega arith)
 
-    pub listed-word : (p o : ℕ) → p < listedCount g → o < record-place.flagsPlace → wordAt h (contactAt h (listedAt h p) + o) ≡ wordAt g (contactAt g (listedAt g p) + o)
+    pub listed-word : (p o : ℕ) → p < listedCount g → o < contactFlags → wordAt h (contactAt h (listedAt h p) + o) ≡ wordAt g (contactAt g (listedAt g p) + o)
     listed-word p o l b = ap (λ (i : ℕ). wordAt h (contactAt h i + o)) (listed-at p l) ∙ names-kept (listedAt g p) o b
 
     pub listed-first : (p : ℕ) → p < listedCount g → wordAt h (contactAt h (listedAt h p)) ≡ wordAt g (contactAt g (listedAt g p))
@@ -213,7 +213,7 @@ module _ (s : Settings) (colliders bodies proposals : List ℕ) where
     pub record-fitting : Fitting (recordOf g id) 0
     record-fitting =
         fitting (recordOf g id) 0
-        (fits-same g (contactAt g id) (recordOf g id) 0 (λ o l _. part-same g (contactAt g id) record-place.contactSize .each o l) ∙ fitting-test (standing-fits (c .range) id st))
+        (fits-same g (contactAt g id) (recordOf g id) 0 (λ o l _. part-same g (contactAt g id) contactSize .each o l) ∙ fitting-test (standing-fits (c .range) id st))
 
     module _ (f : FitPair (recordUpdated s colliders bodies (proposalOf proposals id) id (recordOf g id) .pair)) where
       pub after-fitting : Fitting (change id (recordOf g id)) 0
@@ -258,18 +258,18 @@ module _ (s : Settings) (colliders bodies proposals : List ℕ) where
 
   -- ---- the plain graph
   -- what the rules make of a record by itself is what they make of the pair in the graph
-  pub record-updated : (g : List ℕ) (id : ℕ) → Counted g (contactAt g id + record-place.manifoldsPlace) → Proposed (proposalOf proposals id) 0
+  pub record-updated : (g : List ℕ) (id : ℕ) → Counted g (contactAt g id + contactManifolds) → Proposed (proposalOf proposals id) 0
       → recordUpdated s colliders bodies (proposalOf proposals id) id (recordOf g id) ≡ updated (inputsOf s colliders bodies proposals) (pairAt g (contactAt g id) id)
   unfolding recordUpdated updated inputsOf pairAt namesAt
   record-updated g id c q =
       let at = contactAt g id in
-      let own = part-same g at record-place.contactSize in
+      let own = part-same g at contactSize in
       λ j. updatedBetween s (bodyAt bodies) (hook-part proposals id j) (proposal-part proposals id q j) (pair-part g at id c j) (colliderAt colliders (first-same own tt j))
       (colliderAt colliders (word-same own 1 tt j))
 
   module _ {g : List ℕ} (id : ℕ) (c : Checked g) (st : stands g id ≡ true) (q : Proposed (proposalOf proposals id) 0)
       (f : FitPair (recordUpdated s colliders bodies (proposalOf proposals id) id (recordOf g id) .pair)) where
-    standing-counted : Counted g (contactAt g id + record-place.manifoldsPlace)
+    standing-counted : Counted g (contactAt g id + contactManifolds)
     standing-counted = let t = standing-fits (c .range) id st in record { manifolds = t .manifolds; points = t .points }
 
     -- the contact's own pair

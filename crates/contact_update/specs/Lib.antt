@@ -1,6 +1,6 @@
 pub mod After
-pub mod ManifoldFits
-pub mod UpdateFits
+pub mod ManifoldFitLaws
+pub mod UpdateFitLaws
 pub mod RecordLaws
 pub mod Plain
 pub mod GraphLaws
@@ -9,12 +9,12 @@ pub mod Made
 pub mod PutLaws
 pub mod StoreLaws
 pub mod PointLaws
-pub mod ManifoldTurns
-pub mod Branches
+pub mod ManifoldTurnLaws
+pub mod BranchLaws
 pub mod RenewLaws
-pub mod MatchTurns
-pub mod RecordReads
+pub mod MatchTurnLaws
+pub mod RecordReadLaws
 pub mod Contact
 pub mod ContactLaws
 pub mod UpdateLaws
-pub mod Order
+pub mod OrderLaws

@@ -16,8 +16,8 @@ use Rattle.rules.specs.Records.{Point, Manifold, Cache}
 use Rattle.rules.specs.Recycling.{recycledManifold}
 use Rattle.rules.specs.Sides.{Side}
 use Rattle.words.specs.Words.{wordAt, floatAt, floatWord, vec3At}
-use Rattle.contact_records.specs.Apart.{point-same}
-use Rattle.manifold_records.specs.Lists.{getD-map-upto, length-map-upto}
+use Rattle.contact_records.specs.ApartLaws.{point-same}
+use Rattle.manifold_records.specs.ListLaws.{getD-map-upto, length-map-upto}
 use Rattle.manifold_records.specs.Recorded.{pointAt, pointsAt}
 use Rattle.contact_parameters.specs.Motions.{motionOf, penetrationAfter, recycled-by}
 use Rattle.contact_parameters.specs.declared.recycling.Motion.{Motion}

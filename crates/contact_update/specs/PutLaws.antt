@@ -9,16 +9,18 @@ use lib.ListN.{length, getD, take}
 use Rattle.rows.specs.Rows.{put}
 use Rattle.rules.specs.Records.{Point, Manifold}
 use Rattle.words.specs.Words.{wordAt, floatWord}
-use Rattle.manifold_records.specs.Lists.{getD-map-upto, length-map-upto}
+use Rattle.manifold_records.specs.ListLaws.{getD-map-upto, length-map-upto}
 use Rattle.manifold_records.specs.Recorded.{manifoldAt, manifoldsAt}
-use Rattle.contact_records.specs.Apart.{manifold-same}
-use Rattle.contact_records.specs.Layout as place
+use Rattle.contact_records.specs.ApartLaws.{manifold-same}
+use Rattle.layout.specs.Contact.{contactManifolds}
+use Rattle.layout.specs.Manifold.{manifoldPoints, manifoldSize}
+use Rattle.layout.specs.Point.{pointPenetration, pointSize}
 use Rattle.contact_update.specs.After.{pointsPut, manifoldsPut}
 use Rattle.contact_update.specs.RecordLaws.{points-word}
 
 -- ---- one more
 pub points-next : (ps : List Point) (at : ℕ) (w : List ℕ) (k : ℕ) (d : Point) → k < length ps
-    → pointsPut (take (suc k) ps) at w ≡ put (pointsPut (take k ps) at w) (at + k * place.pointSize + place.penetrationPlace) (floatWord (getD ps k d .penetration) ∷ [])
+    → pointsPut (take (suc k) ps) at w ≡ put (pointsPut (take k ps) at w) (at + k * pointSize + pointPenetration) (floatWord (getD ps k d .penetration) ∷ [])
 unfolding pointsPut
 points-next [] at w k d l = absurd (not-suc-le-zero l)
 points-next (p ∷ ps) at w zero d l = ap (λ (n : ℕ). put w n (floatWord (p .penetration) ∷ [])) (let e : at + 9 ≡ at + 0 * 18 + 9 = omega arith in e)
@@ -28,7 +30,7 @@ points-next (p ∷ ps) at w (suc k) d l =
     ∙ ap (λ (n : ℕ). put (pointsPut (take k ps) (at + 18) ys) n (floatWord (getD ps k d .penetration) ∷ [])) (let e : at + 18 + k * 18 + 9 ≡ at + suc k * 18 + 9 = omega arith in e)
 
 pub manifolds-next : (ms : List Manifold) (at : ℕ) (w : List ℕ) (k : ℕ) (d : Manifold) → k < length ms
-    → manifoldsPut (take (suc k) ms) at w ≡ pointsPut (getD ms k d .points) (at + k * place.manifoldSize + place.pointsPlace) (manifoldsPut (take k ms) at w)
+    → manifoldsPut (take (suc k) ms) at w ≡ pointsPut (getD ms k d .points) (at + k * manifoldSize + manifoldPoints) (manifoldsPut (take k ms) at w)
 unfolding manifoldsPut
 manifolds-next [] at w k d l = absurd (not-suc-le-zero l)
 manifolds-next (m ∷ ms) at w zero d l = ap (λ (n : ℕ). pointsPut (m .points) n w) (let e : at + 9 ≡ at + 0 * 81 + 9 = omega arith in e)
@@ -57,10 +59,10 @@ left-step w g n ps {h} f e l =
 pub manifold-left : (w g : List ℕ) (n : ℕ) → Left w g n → wordAt w n ≤ 4 → manifoldAt g n ≡ manifoldAt w n
 manifold-left w g n f l = manifold-same l (record { each = λ j b. f .after (n + j) (omega arith) })
 
-pub manifold-at : (w : List ℕ) (k : ℕ) (d : Manifold) → k < wordAt w place.manifoldsPlace → getD (manifoldsAt w place.manifoldsPlace) k d ≡ manifoldAt w (place.manifoldsPlace + 1 + k * place.manifoldSize)
+pub manifold-at : (w : List ℕ) (k : ℕ) (d : Manifold) → k < wordAt w contactManifolds → getD (manifoldsAt w contactManifolds) k d ≡ manifoldAt w (contactManifolds + 1 + k * manifoldSize)
 unfolding manifoldsAt
-manifold-at w k d l = getD-map-upto (λ j. manifoldAt w (place.manifoldsPlace + 1 + j * place.manifoldSize)) (wordAt w place.manifoldsPlace) k d l
+manifold-at w k d l = getD-map-upto (λ j. manifoldAt w (contactManifolds + 1 + j * manifoldSize)) (wordAt w contactManifolds) k d l
 
 pub manifolds-length : (w : List ℕ) (at : ℕ) → length (manifoldsAt w at) ≡ wordAt w at
 unfolding manifoldsAt
-manifolds-length w at = length-map-upto (λ j. manifoldAt w (at + 1 + j * place.manifoldSize)) (wordAt w at)
+manifolds-length w at = length-map-upto (λ j. manifoldAt w (at + 1 + j * manifoldSize)) (wordAt w at)

@@ -26,24 +26,26 @@ use Rattle.rules.specs.Records.{Point, Manifold, Cache, PairFlags, Pair}
 use Rattle.rules.specs.Recycling.{recycles, withPenetration, deltaSeparation, recycledPoint, recycledManifold}
 use Rattle.rules.specs.Sides.{overlap, interact, Side, sideOf}
 use Rattle.rules.specs.Update.{Way, skipped, aabbsDisjoint, recycled, full, Updated, bodyOf, disjoint, staticFlags, recycledPair, renewed, overlapping, updatedBetween}
-use Rattle.words.specs.Words.{wordAt, floatAt, vec3At, floatWord}
+use Rattle.words.specs.Words.{wordAt, floatAt, vec3At, floatWord, markWord}
 use Rattle.collider.specs.Recorded.{colliderAt, bodyAt}
 use Rattle.proposals.specs.Recorded.{proposalAt, hookAt}
 use Rattle.manifold_records.specs.Counts.{Counted}
-use Rattle.manifold_records.specs.Lists.{getD-map-upto, length-map-upto, map-upto-same}
+use Rattle.manifold_records.specs.ListLaws.{getD-map-upto, length-map-upto, map-upto-same}
 use Rattle.manifold_records.specs.Recorded.{pointAt, pointsAt, manifoldAt, manifoldsAt}
 use Rattle.manifold_records.specs.Written.{zeros, manifoldsWords}
-use Rattle.contact_records.specs.Apart.{vec3-same, names-same, edge-same, manifolds-same, counted-same, cache-same}
-use Rattle.contact_records.specs.Back.{withState, state-back, counted-state}
+use Rattle.contact_records.specs.ApartLaws.{vec3-same, names-same, edge-same, manifolds-same, counted-same, cache-same}
+use Rattle.contact_records.specs.BackLaws.{withState, state-back, counted-state}
 use Rattle.contact_records.specs.Fit.{FitManifolds, FitPair}
-use Rattle.contact_records.specs.Held.{Holds, Same, put-holds, holds-left, holds-right, same-in, word-same, first-same}
-use Rattle.contact_records.specs.Layout as place
-use Rattle.contact_records.specs.Lengths.{length-cache, length-flags, length-state}
+use Rattle.contact_records.specs.HeldLaws.{Holds, Same, put-holds, holds-left, holds-right, same-in, word-same, first-same}
+use Rattle.layout.specs.Contact.{contactCache, contactFlags, contactManifolds, contactSize, contactSpeculativeDistance}
+use Rattle.layout.specs.Manifold.{manifoldPoints, manifoldSize}
+use Rattle.layout.specs.Point.{pointPenetration, pointSize}
+use Rattle.contact_records.specs.LengthLaws.{length-cache, length-flags, length-state}
 use Rattle.contact_records.specs.Recorded.{intOf, flagsAt, pairAt}
-use Rattle.contact_records.specs.Written.{markWord, intWord, cacheWords, flagsWords, stateWords}
+use Rattle.contact_records.specs.Written.{intWord, cacheWords, flagsWords, stateWords}
 use Rattle.contact_range.specs.Range.{isMark, optionalFits}
 use Rattle.contact_range.specs.RangeLaws.{Fitting}
-use Rattle.contact_graph.specs.Effects.{differ, same-or-not}
+use Rattle.contact_graph.specs.EffectLaws.{differ, same-or-not}
 use Rattle.contact_graph.specs.ImpulseLaws.{same-offset, same-word, map-map}
 use Rattle.contact_update.specs.After.{pointsPut, manifoldsPut, disjointPlace, staticPlace, afterWords, recordUpdated, recordAfter}
 
@@ -52,24 +54,24 @@ pub length-points : (ps : List Point) (at : ℕ) (w : List ℕ) → length (poin
 unfolding pointsPut
 length-points [] at w = refl
 length-points (p ∷ ps) at w =
-    length-points ps (at + place.pointSize) (put w (at + place.penetrationPlace) (floatWord (p .penetration) ∷ []))
-    ∙ length-put w (at + place.penetrationPlace) (floatWord (p .penetration) ∷ [])
+    length-points ps (at + pointSize) (put w (at + pointPenetration) (floatWord (p .penetration) ∷ []))
+    ∙ length-put w (at + pointPenetration) (floatWord (p .penetration) ∷ [])
 
 pub length-manifolds : (ms : List Manifold) (at : ℕ) (w : List ℕ) → length (manifoldsPut ms at w) ≡ length w
 unfolding manifoldsPut
 length-manifolds [] at w = refl
 length-manifolds (m ∷ ms) at w =
-    length-manifolds ms (at + place.manifoldSize) (pointsPut (m .points) (at + place.pointsPlace) w) ∙ length-points (m .points) (at + place.pointsPlace) w
+    length-manifolds ms (at + manifoldSize) (pointsPut (m .points) (at + manifoldPoints) w) ∙ length-points (m .points) (at + manifoldPoints) w
 
 pub after-length : (way : Way) (p : Pair) (w : List ℕ) → length (afterWords way p w) ≡ length w
 unfolding afterWords
 after-length skipped p w = refl
-after-length aabbsDisjoint p w = length-put (put w disjointPlace (1 ∷ [])) place.speculativePlace (0 ∷ []) ∙ length-put w disjointPlace (1 ∷ [])
+after-length aabbsDisjoint p w = length-put (put w disjointPlace (1 ∷ [])) contactSpeculativeDistance (0 ∷ []) ∙ length-put w disjointPlace (1 ∷ [])
 after-length recycled p w =
-    let ys = manifoldsPut (p .manifolds) (place.manifoldsPlace + 1) w in
+    let ys = manifoldsPut (p .manifolds) (contactManifolds + 1) w in
     let ms : List ℕ = markWord (p .flags .static1) ∷ markWord (p .flags .static2) ∷ [] in
-    length-put (put ys staticPlace ms) place.speculativePlace (0 ∷ []) ∙ length-put ys staticPlace ms ∙ length-manifolds (p .manifolds) (place.manifoldsPlace + 1) w
-after-length full p w = length-put w place.flagsPlace (stateWords p)
+    length-put (put ys staticPlace ms) contactSpeculativeDistance (0 ∷ []) ∙ length-put ys staticPlace ms ∙ length-manifolds (p .manifolds) (contactManifolds + 1) w
+after-length full p w = length-put w contactFlags (stateWords p)
 
 pub record-length : (s : Settings) (colliders bodies proposal : List ℕ) (id : ℕ) (w : List ℕ) → length (recordAfter s colliders bodies proposal id w) ≡ length w
 unfolding recordAfter
@@ -85,15 +87,15 @@ word-other w at v j n = getD-put-apart w at (v ∷ []) j 0 (elim (differ j at n)
 pub word-own : (w : List ℕ) (at v : ℕ) → at < length w → wordAt (put w at (v ∷ [])) at ≡ v
 word-own w at v l = ap (wordAt (put w at (v ∷ []))) (sym (add-zero at)) ∙ getD-put w at (v ∷ []) 0 0 (omega arith) (omega arith)
 
-pub points-word : (ps : List Point) (at : ℕ) (w : List ℕ) (j : ℕ) → ((k : ℕ) → k < length ps → j ≢ at + k * place.pointSize + place.penetrationPlace) → wordAt (pointsPut ps at w) j ≡ wordAt w j
+pub points-word : (ps : List Point) (at : ℕ) (w : List ℕ) (j : ℕ) → ((k : ℕ) → k < length ps → j ≢ at + k * pointSize + pointPenetration) → wordAt (pointsPut ps at w) j ≡ wordAt w j
 unfolding pointsPut
 points-word [] at w j n = refl
 points-word (p ∷ ps) at w j n =
     points-word ps (at + 18) (put w (at + 9) (floatWord (p .penetration) ∷ [])) j (λ k l e. n (suc k) (suc-le-suc l) (omega arith))
     ∙ word-other w (at + 9) (floatWord (p .penetration)) j (λ e. n zero (zero-lt-suc (length ps)) (omega arith))
 
-pub points-penetration : (ps : List Point) (at : ℕ) (w : List ℕ) (k : ℕ) (d : Point) → k < length ps → at + length ps * place.pointSize ≤ length w
-    → wordAt (pointsPut ps at w) (at + k * place.pointSize + place.penetrationPlace) ≡ floatWord (getD ps k d .penetration)
+pub points-penetration : (ps : List Point) (at : ℕ) (w : List ℕ) (k : ℕ) (d : Point) → k < length ps → at + length ps * pointSize ≤ length w
+    → wordAt (pointsPut ps at w) (at + k * pointSize + pointPenetration) ≡ floatWord (getD ps k d .penetration)
 unfolding pointsPut
 points-penetration [] at w k d l r = absurd (not-suc-le-zero l)
 points-penetration (p ∷ ps) at w zero d l r =
@@ -106,7 +108,7 @@ points-penetration (p ∷ ps) at w (suc k) d l r =
     ∙ points-penetration ps (at + 18) ys k d (le-of-suc-le-suc l) (omega (arith, length-put w (at + 9) (floatWord (p .penetration) ∷ [])))
 
 pub manifolds-word : (ms : List Manifold) (at : ℕ) (w : List ℕ) (j : ℕ)
-    → ((m k : ℕ) (d : Manifold) → m < length ms → k < length (getD ms m d .points) → j ≢ at + m * place.manifoldSize + place.pointsPlace + k * place.pointSize + place.penetrationPlace)
+    → ((m k : ℕ) (d : Manifold) → m < length ms → k < length (getD ms m d .points) → j ≢ at + m * manifoldSize + manifoldPoints + k * pointSize + pointPenetration)
     → wordAt (manifoldsPut ms at w) j ≡ wordAt w j
 unfolding manifoldsPut
 manifolds-word [] at w j n = refl
@@ -115,8 +117,8 @@ manifolds-word (m ∷ ms) at w j n =
     ∙ points-word (m .points) (at + 9) w j (λ k b e. n zero k m (zero-lt-suc (length ms)) b (omega arith))
 
 pub manifolds-penetration : (ms : List Manifold) (at : ℕ) (w : List ℕ) (m k : ℕ) (d : Manifold) (e : Point) → m < length ms → k < length (getD ms m d .points)
-    → ((i : ℕ) (past : Manifold) → i < length ms → length (getD ms i past .points) ≤ 4) → at + length ms * place.manifoldSize ≤ length w
-    → wordAt (manifoldsPut ms at w) (at + m * place.manifoldSize + place.pointsPlace + k * place.pointSize + place.penetrationPlace) ≡ floatWord (getD (getD ms m d .points) k e .penetration)
+    → ((i : ℕ) (past : Manifold) → i < length ms → length (getD ms i past .points) ≤ 4) → at + length ms * manifoldSize ≤ length w
+    → wordAt (manifoldsPut ms at w) (at + m * manifoldSize + manifoldPoints + k * pointSize + pointPenetration) ≡ floatWord (getD (getD ms m d .points) k e .penetration)
 unfolding manifoldsPut
 manifolds-penetration [] at w m k d e l b few r = absurd (not-suc-le-zero l)
 manifolds-penetration (x ∷ ms) at w zero k d e l b few r =
@@ -130,29 +132,29 @@ manifolds-penetration (x ∷ ms) at w (suc m) k d e l b few r =
     ∙ manifolds-penetration ms (at + 81) ys m k d e (le-of-suc-le-suc l) b (λ i p q. few (suc i) p (suc-le-suc q)) (omega (arith, length-points (x .points) (at + 9) w))
 
 -- ---- words that stay
-pub disjoint-word : (p : Pair) (w : List ℕ) (j : ℕ) → j ≢ disjointPlace → j ≢ place.speculativePlace → wordAt (afterWords aabbsDisjoint p w) j ≡ wordAt w j
+pub disjoint-word : (p : Pair) (w : List ℕ) (j : ℕ) → j ≢ disjointPlace → j ≢ contactSpeculativeDistance → wordAt (afterWords aabbsDisjoint p w) j ≡ wordAt w j
 unfolding afterWords
-disjoint-word p w j a b = word-other (put w disjointPlace (1 ∷ [])) place.speculativePlace 0 j b ∙ word-other w disjointPlace 1 j a
+disjoint-word p w j a b = word-other (put w disjointPlace (1 ∷ [])) contactSpeculativeDistance 0 j b ∙ word-other w disjointPlace 1 j a
 
-pub recycled-word : (p : Pair) (w : List ℕ) (j : ℕ) → (j < staticPlace) ⊎ (staticPlace + 2 ≤ j) → j ≢ place.speculativePlace
+pub recycled-word : (p : Pair) (w : List ℕ) (j : ℕ) → (j < staticPlace) ⊎ (staticPlace + 2 ≤ j) → j ≢ contactSpeculativeDistance
     → ((m k : ℕ) (d : Manifold) → m < length (p .manifolds) → k < length (getD (p .manifolds) m d .points)
-    → j ≢ place.manifoldsPlace + 1 + m * place.manifoldSize + place.pointsPlace + k * place.pointSize + place.penetrationPlace)
+    → j ≢ contactManifolds + 1 + m * manifoldSize + manifoldPoints + k * pointSize + pointPenetration)
     → wordAt (afterWords recycled p w) j ≡ wordAt w j
 unfolding afterWords
 recycled-word p w j a b n =
-    let ys = manifoldsPut (p .manifolds) (place.manifoldsPlace + 1) w in
+    let ys = manifoldsPut (p .manifolds) (contactManifolds + 1) w in
     let ms : List ℕ = markWord (p .flags .static1) ∷ markWord (p .flags .static2) ∷ [] in
-    word-other (put ys staticPlace ms) place.speculativePlace 0 j b ∙ getD-put-apart ys staticPlace ms j 0 a ∙ manifolds-word (p .manifolds) (place.manifoldsPlace + 1) w j n
+    word-other (put ys staticPlace ms) contactSpeculativeDistance 0 j b ∙ getD-put-apart ys staticPlace ms j 0 a ∙ manifolds-word (p .manifolds) (contactManifolds + 1) w j n
 
-pub after-names : (way : Way) (p : Pair) (w : List ℕ) (j : ℕ) → j < place.flagsPlace → wordAt (afterWords way p w) j ≡ wordAt w j
+pub after-names : (way : Way) (p : Pair) (w : List ℕ) (j : ℕ) → j < contactFlags → wordAt (afterWords way p w) j ≡ wordAt w j
 unfolding afterWords
 after-names skipped p w j l = refl
 after-names aabbsDisjoint p w j l = disjoint-word p w j (λ e. omega arith) (λ e. omega arith)
 after-names recycled p w j l = recycled-word p w j (inl (omega arith)) (λ e. omega arith) (λ m k d a b e. omega arith)
-after-names full p w j l = getD-put-apart w place.flagsPlace (stateWords p) j 0 (inl l)
+after-names full p w j l = getD-put-apart w contactFlags (stateWords p) j 0 (inl l)
 
 -- what the record names, its place in the list and the edge's marks
-pub record-names : (s : Settings) (colliders bodies proposal : List ℕ) (id : ℕ) (w : List ℕ) (j : ℕ) → j < place.flagsPlace → wordAt (recordAfter s colliders bodies proposal id w) j ≡ wordAt w j
+pub record-names : (s : Settings) (colliders bodies proposal : List ℕ) (id : ℕ) (w : List ℕ) (j : ℕ) → j < contactFlags → wordAt (recordAfter s colliders bodies proposal id w) j ≡ wordAt w j
 unfolding recordAfter
 record-names s colliders bodies proposal id w j l =
     let u = recordUpdated s colliders bodies proposal id w in
@@ -164,11 +166,11 @@ pub stays : (xs ys : List ℕ) (k n : ℕ) → ((j : ℕ) → k ≤ j → j < k 
 stays xs ys k n f = record { each = λ i l. f (k + i) (omega arith) (omega arith) }
 
 -- rule 2
-pub disjoint-mark : (p : Pair) (w : List ℕ) → length w ≡ place.contactSize → wordAt (afterWords aabbsDisjoint p w) disjointPlace ≡ 1
+pub disjoint-mark : (p : Pair) (w : List ℕ) → length w ≡ contactSize → wordAt (afterWords aabbsDisjoint p w) disjointPlace ≡ 1
 unfolding afterWords
-disjoint-mark p w size = word-other (put w disjointPlace (1 ∷ [])) place.speculativePlace 0 disjointPlace (λ e. omega arith) ∙ word-own w disjointPlace 1 (omega arith)
+disjoint-mark p w size = word-other (put w disjointPlace (1 ∷ [])) contactSpeculativeDistance 0 disjointPlace (λ e. omega arith) ∙ word-own w disjointPlace 1 (omega arith)
 
-pub after-disjoint : (p : Pair) (w : List ℕ) (id : ℕ) → length w ≡ place.contactSize → Counted w place.manifoldsPlace → pairAt (afterWords aabbsDisjoint p w) 0 id ≡ disjoint (pairAt w 0 id)
+pub after-disjoint : (p : Pair) (w : List ℕ) (id : ℕ) → length w ≡ contactSize → Counted w contactManifolds → pairAt (afterWords aabbsDisjoint p w) 0 id ≡ disjoint (pairAt w 0 id)
 unfolding pairAt flagsAt disjoint afterWords
 after-disjoint p w id size c =
     let ys = afterWords aabbsDisjoint p w in
@@ -195,7 +197,7 @@ after-disjoint p w id size c =
     }
 
 -- rules 6 to 12
-pub after-full : (p : Pair) (w : List ℕ) (id : ℕ) → length w ≡ place.contactSize → FitPair p → pairAt (afterWords full p w) 0 id ≡ withState (pairAt w 0 id) p
+pub after-full : (p : Pair) (w : List ℕ) (id : ℕ) → length w ≡ contactSize → FitPair p → pairAt (afterWords full p w) 0 id ≡ withState (pairAt w 0 id) p
 unfolding afterWords
 after-full p w id size f = state-back w 0 p id f (omega arith)
 
@@ -208,21 +210,21 @@ mark-back true e = ap (λ (w : ℕ). eqb w 1) e
 mark-back false e = ap (λ (w : ℕ). eqb w 1) e
 
 -- the static marks and the speculative distance of a recycled pair
-pub static-word : (p : Pair) (w : List ℕ) → length w ≡ place.contactSize → (k : ℕ) → k < 2
+pub static-word : (p : Pair) (w : List ℕ) → length w ≡ contactSize → (k : ℕ) → k < 2
     → wordAt (afterWords recycled p w) (staticPlace + k) ≡ getD (markWord (p .flags .static1) ∷ markWord (p .flags .static2) ∷ []) k 0
 unfolding afterWords
 static-word p w size k l =
-    let zs = manifoldsPut (p .manifolds) (place.manifoldsPlace + 1) w in
+    let zs = manifoldsPut (p .manifolds) (contactManifolds + 1) w in
     let ms : List ℕ = markWord (p .flags .static1) ∷ markWord (p .flags .static2) ∷ [] in
-    word-other (put zs staticPlace ms) place.speculativePlace 0 (staticPlace + k) (λ e. omega arith)
-    ∙ getD-put zs staticPlace ms k 0 l (omega (arith, length-manifolds (p .manifolds) (place.manifoldsPlace + 1) w))
+    word-other (put zs staticPlace ms) contactSpeculativeDistance 0 (staticPlace + k) (λ e. omega arith)
+    ∙ getD-put zs staticPlace ms k 0 l (omega (arith, length-manifolds (p .manifolds) (contactManifolds + 1) w))
 
-pub speculative-word : (p : Pair) (w : List ℕ) → length w ≡ place.contactSize → wordAt (afterWords recycled p w) place.speculativePlace ≡ 0
+pub speculative-word : (p : Pair) (w : List ℕ) → length w ≡ contactSize → wordAt (afterWords recycled p w) contactSpeculativeDistance ≡ 0
 unfolding afterWords
 speculative-word p w size =
-    let zs = manifoldsPut (p .manifolds) (place.manifoldsPlace + 1) w in
+    let zs = manifoldsPut (p .manifolds) (contactManifolds + 1) w in
     let ms : List ℕ = markWord (p .flags .static1) ∷ markWord (p .flags .static2) ∷ [] in
-    word-own (put zs staticPlace ms) place.speculativePlace 0 (omega (arith, length-put zs staticPlace ms, length-manifolds (p .manifolds) (place.manifoldsPlace + 1) w))
+    word-own (put zs staticPlace ms) contactSpeculativeDistance 0 (omega (arith, length-put zs staticPlace ms, length-manifolds (p .manifolds) (contactManifolds + 1) w))
 
 -- rule 5, whatever the penetrations are: v gives each from the manifold's normal and the point
 abbrev pub pointWith : (Vec3 → Point → Float) → Vec3 → Point → Point
@@ -233,32 +235,32 @@ manifoldWith v m = withPoints m (map (pointWith v (m .normal)) (m .points))
 
 -- where manifold m of a record begins, and its points
 abbrev pub manifoldOf : ℕ → ℕ
-manifoldOf m = place.manifoldsPlace + 1 + m * place.manifoldSize
+manifoldOf m = contactManifolds + 1 + m * manifoldSize
 
 abbrev pub pointOf : ℕ → ℕ → ℕ
-pointOf m k = manifoldOf m + place.pointsPlace + k * place.pointSize
+pointOf m k = manifoldOf m + manifoldPoints + k * pointSize
 
 -- a word before the manifolds, and of a manifold before its points
 module _ (p : Pair) (w : List ℕ) (f : FitManifolds (p .manifolds)) where
   few-points : (m : ℕ) (d : Manifold) → m < length (p .manifolds) → length (getD (p .manifolds) m d .points) ≤ 4
   few-points m d l = f .each m d l .points .few
 
-  head-word : (j : ℕ) → j ≤ place.manifoldsPlace → (j < staticPlace) ⊎ (staticPlace + 2 ≤ j) → j ≢ place.speculativePlace → wordAt (afterWords recycled p w) j ≡ wordAt w j
+  head-word : (j : ℕ) → j ≤ contactManifolds → (j < staticPlace) ⊎ (staticPlace + 2 ≤ j) → j ≢ contactSpeculativeDistance → wordAt (afterWords recycled p w) j ≡ wordAt w j
   head-word j l a b = recycled-word p w j a b (λ m k d x y e. omega arith)
 
-  manifold-word : (m o : ℕ) → o < place.pointsPlace → wordAt (afterWords recycled p w) (manifoldOf m + o) ≡ wordAt w (manifoldOf m + o)
+  manifold-word : (m o : ℕ) → o < manifoldPoints → wordAt (afterWords recycled p w) (manifoldOf m + o) ≡ wordAt w (manifoldOf m + o)
   manifold-word m o l =
       recycled-word p w (manifoldOf m + o) (inr (omega arith)) (λ e. omega arith)
       (λ n k d a b e. let z : k < 4 = omega (arith, few-points n d a) in
       let y = same-offset 81 m n o (9 + k * 18 + 9) (omega arith) (omega arith) (omega arith) in omega arith)
 
-module _ (v : Vec3 → Point → Float) (p : Pair) (w : List ℕ) (size : length w ≡ place.contactSize) (c : Counted w place.manifoldsPlace) (f : FitManifolds (p .manifolds))
-    (made : p .manifolds ≡ map (manifoldWith v) (manifoldsAt w place.manifoldsPlace)) where
+module _ (v : Vec3 → Point → Float) (p : Pair) (w : List ℕ) (size : length w ≡ contactSize) (c : Counted w contactManifolds) (f : FitManifolds (p .manifolds))
+    (made : p .manifolds ≡ map (manifoldWith v) (manifoldsAt w contactManifolds)) where
   abbrev ys : List ℕ
   ys = afterWords recycled p w
 
   abbrev count : ℕ
-  count = wordAt w place.manifoldsPlace
+  count = wordAt w contactManifolds
 
   -- what the list has at each index
   made-upto : p .manifolds ≡ map (λ m. manifoldWith v (manifoldAt w (manifoldOf m))) (upto count)
@@ -288,25 +290,25 @@ module _ (v : Vec3 → Point → Float) (p : Pair) (w : List ℕ) (size : length
       ∙ getD-map-upto (λ k. pointWith v (vec3At w (manifoldOf m + 1)) (pointAt w (pointOf m k))) (wordAt w (manifoldOf m)) k q b
 
   -- a word of a point
-  point-word : (m k u : ℕ) → k < 4 → u < place.pointSize → u ≢ place.penetrationPlace → wordAt ys (pointOf m k + u) ≡ wordAt w (pointOf m k + u)
+  point-word : (m k u : ℕ) → k < 4 → u < pointSize → u ≢ pointPenetration → wordAt ys (pointOf m k + u) ≡ wordAt w (pointOf m k + u)
   point-word m k u l b n =
       recycled-word p w (pointOf m k + u) (inr (omega arith)) (λ e. omega arith)
       (λ i j d x y e. let z : j < 4 = omega (arith, few-points p w f i d x) in n (same-word m i k j u 9 l z b (omega arith) e))
 
   penetration-word : (m k : ℕ) → m < count → k < wordAt w (manifoldOf m)
-      → wordAt ys (pointOf m k + place.penetrationPlace) ≡ floatWord (v (vec3At w (manifoldOf m + 1)) (pointAt w (pointOf m k)))
+      → wordAt ys (pointOf m k + pointPenetration) ≡ floatWord (v (vec3At w (manifoldOf m + 1)) (pointAt w (pointOf m k)))
   unfolding afterWords
   penetration-word m k l b =
-      let zs = manifoldsPut (p .manifolds) (place.manifoldsPlace + 1) w in
+      let zs = manifoldsPut (p .manifolds) (contactManifolds + 1) w in
       let ms : List ℕ = markWord (p .flags .static1) ∷ markWord (p .flags .static2) ∷ [] in
       let d = manifoldAt w (manifoldOf m) in
       let q = pointAt w (pointOf m k) in
-      let j = pointOf m k + place.penetrationPlace in
-      word-other (put zs staticPlace ms) place.speculativePlace 0 j (λ e. omega arith) ∙ getD-put-apart zs staticPlace ms j 0 (inr (omega arith))
+      let j = pointOf m k + pointPenetration in
+      word-other (put zs staticPlace ms) contactSpeculativeDistance 0 j (λ e. omega arith) ∙ getD-put-apart zs staticPlace ms j 0 (inr (omega arith))
       ∙ manifolds-penetration (p .manifolds) 37 w m k d q (omega (arith, made-count)) (omega (arith, made-length m d l)) (few-points p w f) (omega (arith, f .few))
       ∙ ap (λ (r : Point). floatWord (r .penetration)) (made-point m k d q l b)
 
-  penetration-back : (m k : ℕ) → m < count → k < wordAt w (manifoldOf m) → floatAt ys (pointOf m k + place.penetrationPlace) ≡ v (vec3At w (manifoldOf m + 1)) (pointAt w (pointOf m k))
+  penetration-back : (m k : ℕ) → m < count → k < wordAt w (manifoldOf m) → floatAt ys (pointOf m k + pointPenetration) ≡ v (vec3At w (manifoldOf m + 1)) (pointAt w (pointOf m k))
   penetration-back m k l b =
       let d = manifoldAt w (manifoldOf m) in
       let q = pointAt w (pointOf m k) in
@@ -336,8 +338,8 @@ module _ (v : Vec3 → Point → Float) (p : Pair) (w : List ℕ) (size : length
       }
 
   recycled-points : (m : ℕ) → m < count
-      → pointsAt ys (manifoldOf m + place.pointsPlace) (wordAt w (manifoldOf m))
-      ≡ map (pointWith v (vec3At w (manifoldOf m + 1))) (pointsAt w (manifoldOf m + place.pointsPlace) (wordAt w (manifoldOf m)))
+      → pointsAt ys (manifoldOf m + manifoldPoints) (wordAt w (manifoldOf m))
+      ≡ map (pointWith v (vec3At w (manifoldOf m + 1))) (pointsAt w (manifoldOf m + manifoldPoints) (wordAt w (manifoldOf m)))
   unfolding pointsAt
   recycled-points m l =
       let n = vec3At w (manifoldOf m + 1) in
@@ -357,13 +359,13 @@ module _ (v : Vec3 → Point → Float) (p : Pair) (w : List ℕ) (size : length
         tangentVelocity = vec3-same (same-in s 6 3 (lit≤ tt)) i;
       }
 
-  recycled-manifolds : manifoldsAt ys place.manifoldsPlace ≡ p .manifolds
+  recycled-manifolds : manifoldsAt ys contactManifolds ≡ p .manifolds
   unfolding manifoldsAt
   recycled-manifolds =
       ap (λ (n : ℕ). map (λ m. manifoldAt ys (manifoldOf m)) (upto n)) (head-word p w f 36 (omega arith) (inr (omega arith)) (λ e. omega arith))
       ∙ map-upto-same (λ m. manifoldAt ys (manifoldOf m)) (λ m. manifoldWith v (manifoldAt w (manifoldOf m))) count recycled-manifold ∙ sym made-upto
 
-  recycled-flags : flagsAt ys place.flagsPlace ≡ staticFlags (flagsAt w place.flagsPlace) (p .flags .static1) (p .flags .static2)
+  recycled-flags : flagsAt ys contactFlags ≡ staticFlags (flagsAt w contactFlags) (p .flags .static1) (p .flags .static2)
   unfolding flagsAt
   recycled-flags =
       let early : (j : ℕ) → j < 15 → wordAt ys j ≡ wordAt w j = λ j l. head-word p w f j (omega arith) (inl l) (λ e. omega arith) in
@@ -402,7 +404,7 @@ module _ (v : Vec3 → Point → Float) (p : Pair) (w : List ℕ) (size : length
       }
 
 -- ---- the pair that the words record is the rules' pair
-module _ (w : List ℕ) (id : ℕ) (size : length w ≡ place.contactSize) (c : Counted w place.manifoldsPlace) where
+module _ (w : List ℕ) (id : ℕ) (size : length w ≡ contactSize) (c : Counted w contactManifolds) where
   abbrev old : Pair
   old = pairAt w 0 id
 
@@ -444,7 +446,7 @@ module _ (w : List ℕ) (id : ℕ) (size : length w ≡ place.contactSize) (c : 
       (read-overlapping s answer proposal c1 c2 a b (recycles s (old .flags .touching) a b (old .cache)) (old .cache))
       (λ g. after-disjoint (disjoint old) w id size c) f
 
-pub record-pair : (s : Settings) (colliders bodies proposal : List ℕ) (id : ℕ) (w : List ℕ) → length w ≡ place.contactSize → Counted w place.manifoldsPlace
+pub record-pair : (s : Settings) (colliders bodies proposal : List ℕ) (id : ℕ) (w : List ℕ) → length w ≡ contactSize → Counted w contactManifolds
     → FitPair (recordUpdated s colliders bodies proposal id w .pair) → pairAt (recordAfter s colliders bodies proposal id w) 0 id ≡ recordUpdated s colliders bodies proposal id w .pair
 unfolding recordAfter recordUpdated
 record-pair s colliders bodies proposal id w size c f =
@@ -475,14 +477,14 @@ marks-split ys a b zero l = a 0 (omega arith)
 marks-split ys a b (suc zero) l = a 1 (omega arith)
 marks-split ys a b (suc (suc k)) l = subst (λ (j : ℕ). wordAt ys j < 2) (let e : 9 + k ≡ 7 + suc (suc k) = omega arith in e) (b k (omega arith))
 
-module _ (p : Pair) (w : List ℕ) (size : length w ≡ place.contactSize) (fits : Fitting w 0) (f : FitPair p) where
-  optional-kept : (way : Way) (at : ℕ) → at + 1 < place.flagsPlace → optionalFits bodies (afterWords way p w) at ≡ optionalFits bodies w at
+module _ (p : Pair) (w : List ℕ) (size : length w ≡ contactSize) (fits : Fitting w 0) (f : FitPair p) where
+  optional-kept : (way : Way) (at : ℕ) → at + 1 < contactFlags → optionalFits bodies (afterWords way p w) at ≡ optionalFits bodies w at
   optional-kept way at l =
       let same : (j : ℕ) → j < 9 → wordAt (afterWords way p w) j ≡ wordAt w j = after-names way p w in
       λ i. isMark (same at (omega arith) i) && cond (eqb (same at (omega arith) i) 1) (ltb (same (at + 1) l i) bodies) true
 
   -- what the record names, once the marks, the cache's mark and the counts fit
-  named-fits : (way : Way) → ((j : ℕ) → j < 9 → wordAt (afterWords way p w) (9 + j) < 2) → wordAt (afterWords way p w) place.cachePlace < 2 → Counted (afterWords way p w) place.manifoldsPlace
+  named-fits : (way : Way) → ((j : ℕ) → j < 9 → wordAt (afterWords way p w) (9 + j) < 2) → wordAt (afterWords way p w) contactCache < 2 → Counted (afterWords way p w) contactManifolds
       → Fitting (afterWords way p w) 0
   named-fits way marks cache c =
       let ys = afterWords way p w in
@@ -498,7 +500,7 @@ module _ (p : Pair) (w : List ℕ) (size : length w ≡ place.contactSize) (fits
         points = c .points;
       }
 
-  counted : Counted w place.manifoldsPlace
+  counted : Counted w contactManifolds
   counted = record { manifolds = fits .manifolds; points = fits .points }
 
   -- the pair's marks as they were
@@ -563,7 +565,7 @@ module _ (p : Pair) (w : List ℕ) (size : length w ≡ place.contactSize) (fits
   after-fits recycled = recycled-fits
   after-fits full = full-fits
 
-pub record-fits : (s : Settings) (colliders bodies proposal : List ℕ) (id : ℕ) (w : List ℕ) → length w ≡ place.contactSize → Fitting w 0
+pub record-fits : (s : Settings) (colliders bodies proposal : List ℕ) (id : ℕ) (w : List ℕ) → length w ≡ contactSize → Fitting w 0
     → FitPair (recordUpdated s colliders bodies proposal id w .pair) → Fitting (recordAfter s colliders bodies proposal id w) 0
 unfolding recordAfter
 record-fits s colliders bodies proposal id w size fits f =

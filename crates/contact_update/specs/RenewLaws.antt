@@ -21,8 +21,8 @@ use Rattle.rules.specs.Sides.{Side}
 use Rattle.rules.specs.Surface.{Surface, surfaceOf}
 use Rattle.rules.specs.Update.{enabled, matched, changeOf, remaining, renewedFlags, statusBit, renewed}
 use Rattle.words.specs.Words.{wordAt}
-use Rattle.contact_records.specs.Layout as place
-use Rattle.contact_records.specs.Lengths.{length-cache}
+use Rattle.layout.specs.Contact.{contactManifolds}
+use Rattle.contact_records.specs.LengthLaws.{length-cache}
 use Rattle.manifold_records.specs.Recorded.{manifoldsAt}
 use Rattle.contact_records.specs.StateViews.{flagsOf, cachedOf}
 use Rattle.manifold_records.specs.Written.{manifoldsWords}
@@ -50,8 +50,8 @@ state-stored w f change cache manifolds l p q =
 
 module _ (s : Settings) (answer : Bool) (proposal : List ProposedManifold) (c1 c2 : Collider) (a b : Side) (w : List ℕ) (p : Pair)
     (speculative : Float) (flags : PairFlags) (f : Surface) (old new : ℕ)
-    (es : speculative ≡ p .speculative) (ef : flags ≡ p .flags) (em : manifoldsAt w place.manifoldsPlace ≡ p .manifolds)
-    (eo : old ≡ wordAt w place.manifoldsPlace) (shared : f ≡ surfaceOf s c1 c2 a b speculative) where
+    (es : speculative ≡ p .speculative) (ef : flags ≡ p .flags) (em : manifoldsAt w contactManifolds ≡ p .manifolds)
+    (eo : old ≡ wordAt w contactManifolds) (shared : f ≡ surfaceOf s c1 c2 a b speculative) where
   abbrev remain : List Manifold
   remain = remaining (s .stepTime) a b (surfaceOf s c1 c2 a b (p .speculative)) (p .flags .modifyContacts) answer proposal
 
@@ -61,14 +61,14 @@ module _ (s : Settings) (answer : Bool) (proposal : List ProposedManifold) (c1 c
   same-left : remaining (s .stepTime) a b f (flags .modifyContacts) answer proposal ≡ remain
   same-left = λ i. remaining (s .stepTime) a b (same-surface i) (ef i .modifyContacts) answer proposal
 
-  module _ {mid : List ℕ} (r : Renewal) (m : ManifoldsRenewed s (manifoldsAt w place.manifoldsPlace) (remaining (s .stepTime) a b f (flags .modifyContacts) answer proposal) w mid new)
+  module _ {mid : List ℕ} (r : Renewal) (m : ManifoldsRenewed s (manifoldsAt w contactManifolds) (remaining (s .stepTime) a b f (flags .modifyContacts) answer proposal) w mid new)
       (state : StateRenewed c1 c2 a b f flags old new r) where
     same-touching : not (eqb new 0) ≡ not (isEmpty remain)
     same-touching = ap not (sym (empty-count remain new (sym (ap length same-left) ∙ m .count)))
 
     same-change : pos new -ℤ pos old ≡ changeOf (p .manifolds) remain
     unfolding changeOf
-    same-change = λ i. pos ((sym (m .count) ∙ ap length same-left) i) -ℤ pos ((eo ∙ sym (manifolds-length w place.manifoldsPlace) ∙ ap length em) i)
+    same-change = λ i. pos ((sym (m .count) ∙ ap length same-left) i) -ℤ pos ((eo ∙ sym (manifolds-length w contactManifolds) ∙ ap length em) i)
 
     pub full-updates : {after : List ℕ} → after ≡ put mid 9 (flagsWords (flagsOf (r .flags)) ++ r .change ∷ 0 ∷ cacheWords (some (cachedOf (r .cache))))
         → Updates (renewed s answer proposal c1 c2 a b p) w after (record { bit = r .bit; recycled = false; «max_contact_distance» = r .«max_contact_distance» })
@@ -76,7 +76,7 @@ module _ (s : Settings) (answer : Bool) (proposal : List ProposedManifold) (c1 c
     full-updates e =
         record {
           words = state-stored w (flagsOf (r .flags)) (r .change) (cacheWords (some (cachedOf (r .cache)))) _ (length-cache (some (cachedOf (r .cache)))) (m .words) e
-              ∙ (λ i. put w 9 (flagsWords ((state .flags ∙ (λ j. renewedFlags (ef j) (a .fixed) (b .fixed) (enabled c1 c2 a b) (same-touching j))) i) ++ (state .change ∙ ap intWord same-change) i ∷ 0 ∷ cacheWords (some (state .cache i)) ++ manifoldsWords (matched s (em i) (same-left i))));
+              ∙ (λ i. put w 9 (flagsWords ((state .flags ∙ (λ j. renewedFlags (ef j) (a .isStatic) (b .isStatic) (enabled c1 c2 a b) (same-touching j))) i) ++ (state .change ∙ ap intWord same-change) i ∷ 0 ∷ cacheWords (some (state .cache i)) ++ manifoldsWords (matched s (em i) (same-left i))));
           bit = state .bit ∙ (λ i. statusBit (ef i) (enabled c1 c2 a b) (same-touching i) (same-change i));
           recycled = refl;
           distance = state .distance ∙ (λ i. same-surface i .margins ⊕ same-surface i .effectiveSpeculative);

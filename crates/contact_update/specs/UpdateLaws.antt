@@ -13,7 +13,7 @@ use Rattle.rules.specs.Sides.{Side, overlap, interact, sideOf}
 use Rattle.rules.specs.Surface.{frictionOf, restitutionOf}
 use Rattle.rules.specs.Update.{aabbsDisjoint, full, isRecycled, Updated, bodyOf, disjoint, renewed, overlapping, updatedBetween}
 use Rattle.contact_records.specs.Fit.{FitPair}
-use Rattle.contact_records.specs.Layout as record-place
+use Rattle.layout.specs.Contact.{contactSize}
 use Rattle.contact_range.specs.Checked.{Checked}
 use Rattle.contact_range.specs.RangeLaws.{standing-fits}
 use Rattle.contact_range.specs.Recorded.{contactAt, graphOf}
@@ -21,8 +21,8 @@ use Rattle.contact_update.specs.After.{proposalOf, recordUpdated, graphA
 use Rattle.contact_update.specs.Contact.{ContactReady, updateOf}
 use Rattle.contact_update.specs.GraphLaws.{recordOf, record-fitting, record-updated, update-in-range, update-graph}
 use Rattle.contact_update.specs.Plain.{plainUpdate}
-use Rattle.contact_update.specs.RecordReads.{counted-of}
-use Rattle.contact_update.specs.UpdateFits.{FitSettings, update-fits}
+use Rattle.contact_update.specs.RecordReadLaws.{counted-of}
+use Rattle.contact_update.specs.UpdateFitLaws.{FitSettings, update-fits}
 
 -- ---- rule 7: friction falls back to the body, restitution does not
 pub friction-falls-back : (s : Settings) (c : Collider) (a : Side) (f : Coefficient) → c .friction ≡ none → a .friction ≡ some f → frictionOf s c a ≡ f
@@ -90,7 +90,7 @@ module _ (s : Settings) (answer : Bool) (proposal : List ProposedManifold) (c1 c
 module _ (s : Settings) (colliders bodies proposals : List ℕ) (id : ℕ) where
   -- an update never reads another contact's record
   pub reads-own-record : (g h : List ℕ) → ContactReady colliders bodies proposals g id → ContactReady colliders bodies proposals h id
-      → part g (contactAt g id) record-place.contactSize ≡ part h (contactAt h id) record-place.contactSize → updateOf s colliders bodies proposals id g ≡ updateOf s colliders bodies proposals id h
+      → part g (contactAt g id) contactSize ≡ part h (contactAt h id) contactSize → updateOf s colliders bodies proposals id g ≡ updateOf s colliders bodies proposals id h
   unfolding updateOf
   reads-own-record g h a b e =
       let t = standing-fits (a .checked .range) id (a .standing) in

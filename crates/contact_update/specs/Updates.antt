@@ -19,15 +19,16 @@ use Rattle.rules.specs.Recycling.{withPenetration}
 use Rattle.rules.specs.Sides.{Side}
 use Rattle.rules.specs.Surface.{Surface}
 use Rattle.rules.specs.Update.{isRecycled, Updated, cacheOf, enabled, matched, renewedFlags, statusBit}
-use Rattle.collider.specs.Layout.{collidersLength, bodiesLength}
+use Rattle.layout.specs.Body.{bodiesLength}
+use Rattle.layout.specs.Collider.{collidersLength}
+use Rattle.layout.specs.Contact.{contactManifolds, contactSize}
+use Rattle.layout.specs.Proposal.{proposalSize}
 use Rattle.collider.specs.Range.{collidersFit}
-use Rattle.contact_records.specs.Layout.{contactSize, manifoldsPlace}
 use Rattle.contact_records.specs.Recorded.{pairAt}
 use Rattle.contact_records.specs.StateViews.{flagsOf, cachedOf}
 use Rattle.manifold_records.specs.Written.{manifoldsWords}
 use Rattle.contact_records.specs.Written.{intWord}
 use Rattle.contact_range.specs.RangeLaws.{Fitting}
-use Rattle.proposals.specs.Layout.{proposalSize}
 use Rattle.proposals.specs.Range.{Proposed}
 use Rattle.contact_parameters.specs.Motions.{penetrationAfter}
 use Rattle.contact_parameters.specs.declared.recycling.Motion.{Motion}
@@ -80,13 +81,13 @@ manifoldAfter motion m = withPoints m (map (pointAfter motion (m .normal)) (m .p
 -- ---- rules 6 to 12
 -- The promise of `renew_manifolds`: of these new manifolds, matched against the old ones, the words are stored.
 pub record ManifoldsRenewed (s : Settings) (olds news : List Manifold) (before after : List ℕ) (r : ℕ) : Type 0 where
-  pub words : after ≡ put before manifoldsPlace (manifoldsWords (matched s olds news))
+  pub words : after ≡ put before contactManifolds (manifoldsWords (matched s olds news))
   pub count : length news ≡ r
   pub few : r ≤ 6
 
 -- The promise of `renew`: what a full update makes of a pair besides its manifolds, of which there were `old` and are `new`.
 pub record StateRenewed (c1 c2 : Collider) (a b : Side) (f : Surface) (given : PairFlags) (old new : ℕ) (r : Renewal) : Type 0 where
-  pub flags : flagsOf (r .flags) ≡ renewedFlags given (a .fixed) (b .fixed) (enabled c1 c2 a b) (not (eqb new 0))
+  pub flags : flagsOf (r .flags) ≡ renewedFlags given (a .isStatic) (b .isStatic) (enabled c1 c2 a b) (not (eqb new 0))
   pub change : r .change ≡ intWord (pos new -ℤ pos old)
   pub cache : cachedOf (r .cache) ≡ cacheOf a b
   pub bit : r .bit ≡ statusBit given (enabled c1 c2 a b) (not (eqb new 0)) (pos new -ℤ pos old)

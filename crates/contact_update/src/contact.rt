@@ -9,10 +9,10 @@ ghost use Rattle.contact_update.specs.Contact.{ContactReady, OwnUpdated,
 use crate::record::Outcome;
 use crate::record::update_record;
 use collider::settings::Settings;
-use contact_range::layout::CONTACT_SIZE;
-use contact_range::layout::contact_at;
+use contact_range::places::contact_at;
 use data_structures::bit_vec::set;
-use proposals::layout::PROPOSAL_SIZE;
+use layout::contact::CONTACT_SIZE;
+use layout::proposal::PROPOSAL_SIZE;
 use words::row::store_float;
 
 // The contact's record and its proposal are lent on, and no other's.

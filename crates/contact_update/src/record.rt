@@ -4,13 +4,13 @@ ghost use mathlib.Core.Option.{some};
 ghost use lib.ListN.{length};
 ghost use Rattle.rules.specs.Sides.{sideOf};
 ghost use Rattle.rules.specs.Update.{bodyOf, renewed, updatedBetween};
-ghost use Rattle.collider.specs.Layout.{bodiesLength};
+ghost use Rattle.layout.specs.Body.{bodiesLength};
+ghost use Rattle.layout.specs.Contact.{contactManifolds, contactSize};
+ghost use Rattle.layout.specs.Proposal.{proposalSize};
 ghost use Rattle.collider.specs.Recorded.{bodyAt};
 ghost use Rattle.collider.specs.Views.{plainNumberIf, plainSettings, plainCollider, plainBodyIf, plainSide};
 ghost use Rattle.manifold_records.specs.Counts.{Counted};
-ghost use Rattle.contact_records.specs.Layout.{contactSize, manifoldsPlace};
 ghost use Rattle.contact_records.specs.StateViews.{cachedOf};
-ghost use Rattle.proposals.specs.Layout.{proposalSize};
 ghost use Rattle.proposals.specs.Range.{Proposed};
 ghost use Rattle.proposals.specs.Recorded.{proposalAt, hookAt};
 ghost use Rattle.contact_update.specs.Updates.{Ready, BelowLimit, UpdatesAs, SkippedIs, RecordUpdates};
@@ -32,11 +32,17 @@ use collider::side::Side;
 use collider::side::side_of;
 use contact_parameters::recycling::recycle;
 use contact_parameters::surface::surface_of;
-use contact_range::layout::MANIFOLDS_PLACE;
 use contact_records::state::RecyclingCache;
 use contact_records::state::load_cache;
 use contact_records::state::load_flags;
 use contact_types::contact_manifold::ContactRecyclingCache;
+use layout::contact::CONTACT_CACHE;
+use layout::contact::CONTACT_COLLIDER1;
+use layout::contact::CONTACT_COLLIDER2;
+use layout::contact::CONTACT_FLAGS;
+use layout::contact::CONTACT_MANIFOLDS;
+use layout::contact::CONTACT_SPECULATIVE_DISTANCE;
+use layout::contact::PAIR_DISJOINT_AABB;
 use words::row::load_float;
 use words::row::load_word;
 use words::row::store_word;
@@ -54,8 +60,8 @@ fn update_disjoint(words: &mut [u32]) -> Outcome
     requires { ⌜ length (now words) ≡ contactSize ⌝ }
     ensures { λ r. ⌜ UpdatesAs disjointUpdate (now (words .entry)) (now (words .exit)) r ⌝ }
 {
-    store_word(words, 10, 1);
-    store_word(words, 19, 0);
+    store_word(words, PAIR_DISJOINT_AABB, 1);
+    store_word(words, CONTACT_SPECULATIVE_DISTANCE, 0);
     Outcome {
         bit: true,
         recycled: false,
@@ -65,7 +71,7 @@ fn update_disjoint(words: &mut [u32]) -> Outcome
 
 // Rule 5.
 fn update_recycled(words: &mut [u32], a: Side, b: Side, cache: ContactRecyclingCache) -> Outcome
-    requires { ⌜ (length (now words) ≡ contactSize) × Counted (now words) manifoldsPlace ⌝ }
+    requires { ⌜ (length (now words) ≡ contactSize) × Counted (now words) contactManifolds ⌝ }
     ensures { λ r. ⌜ UpdatesAs (recycledUpdate (plainSide a) (plainSide b) (cachedOf cache)) (now (words .entry)) (now (words .exit)) r ⌝ }
 {
     recycle_words(words, a, b, cache);
@@ -86,12 +92,19 @@ fn update_full(
     proposal: &[u32],
     words: &mut [u32],
 ) -> Outcome
-    requires { ⌜ (length (now words) ≡ contactSize) × Counted (now words) manifoldsPlace × (length (now proposal) ≡ proposalSize) × Proposed (now proposal) 0 ⌝ }
+    requires { ⌜ (length (now words) ≡ contactSize) × Counted (now words) contactManifolds × (length (now proposal) ≡ proposalSize) × Proposed (now proposal) 0 ⌝ }
     ensures { λ r. ⌜ UpdatesAs (renewed (plainSettings s) (hookAt (now (proposal .entry)) 0) (proposalAt (now (proposal .entry)) 0) (plainCollider c1) (plainCollider c2) (plainSide a) (plainSide b)) (now (words .entry)) (now (words .exit)) r ⌝ }
 {
-    let flags = load_flags(words, 9);
-    let old = load_word(words, MANIFOLDS_PLACE);
-    let f = surface_of(s, c1, c2, a, b, load_float(words, 19));
+    let flags = load_flags(words, CONTACT_FLAGS);
+    let old = load_word(words, CONTACT_MANIFOLDS);
+    let f = surface_of(
+        s,
+        c1,
+        c2,
+        a,
+        b,
+        load_float(words, CONTACT_SPECULATIVE_DISTANCE),
+    );
     let new = renew_manifolds(words, s, a, b, f, flags.modify_contacts, proposal);
     let r = renew(c1, c2, a, b, f, flags, old, new);
     store_renewal(words, r);
@@ -112,11 +125,11 @@ fn update_overlapping(
     proposal: &[u32],
     words: &mut [u32],
 ) -> Outcome
-    requires { ⌜ (length (now words) ≡ contactSize) × Counted (now words) manifoldsPlace × (length (now proposal) ≡ proposalSize) × Proposed (now proposal) 0 ⌝ }
+    requires { ⌜ (length (now words) ≡ contactSize) × Counted (now words) contactManifolds × (length (now proposal) ≡ proposalSize) × Proposed (now proposal) 0 ⌝ }
     ensures { λ r. ⌜ UpdatesAs (overlapped (plainSettings s) (hookAt (now (proposal .entry)) 0) (proposalAt (now (proposal .entry)) 0) (plainCollider c1) (plainCollider c2) (plainSide a) (plainSide b)) (now (words .entry)) (now (words .exit)) r ⌝ }
 {
-    let flags = load_flags(words, 9);
-    let cache = load_cache(words, 20);
+    let flags = load_flags(words, CONTACT_FLAGS);
+    let cache = load_cache(words, CONTACT_CACHE);
     let RecyclingCache::Cached(k) = cache else {
         return update_full(s, c1, c2, a, b, proposal, words);
     };
@@ -155,10 +168,10 @@ fn update_between(
     proposal: &[u32],
     words: &mut [u32],
 ) -> Outcome
-    requires { ⌜ BelowLimit (plainCollider c1 .body) × BelowLimit (plainCollider c2 .body) × (length (now bodies) ≡ bodiesLength) × (length (now words) ≡ contactSize) × Counted (now words) manifoldsPlace × (length (now proposal) ≡ proposalSize) × Proposed (now proposal) 0 ⌝ }
+    requires { ⌜ BelowLimit (plainCollider c1 .body) × BelowLimit (plainCollider c2 .body) × (length (now bodies) ≡ bodiesLength) × (length (now words) ≡ contactSize) × Counted (now words) contactManifolds × (length (now proposal) ≡ proposalSize) × Proposed (now proposal) 0 ⌝ }
     ensures { λ r. ⌜ UpdatesAs (λ p. updatedBetween (plainSettings s) (bodyAt (now (bodies .entry))) (hookAt (now (proposal .entry)) 0) (proposalAt (now (proposal .entry)) 0) p (some (plainCollider c1)) (some (plainCollider c2))) (now (words .entry)) (now (words .exit)) r ⌝ }
 {
-    let given = load_float(words, 19);
+    let given = load_float(words, CONTACT_SPECULATIVE_DISTANCE);
     if !overlap(c1, c2, given) {
         return update_disjoint(words);
     }
@@ -191,8 +204,8 @@ pub fn update_record(
     requires { ⌜ Ready (now colliders) (now bodies) (now proposal) (now words) ⌝ }
     ensures { λ r. ⌜ RecordUpdates (plainSettings s) (now (colliders .entry)) (now (bodies .entry)) (now (proposal .entry)) (now (words .entry)) (now (words .exit)) r ⌝ }
 {
-    let n1 = load_word(words, 0);
-    let n2 = load_word(words, 1);
+    let n1 = load_word(words, CONTACT_COLLIDER1);
+    let n2 = load_word(words, CONTACT_COLLIDER2);
     let FoundCollider::Present(c1) = load_collider(colliders, n1) else {
         return skipped();
     };

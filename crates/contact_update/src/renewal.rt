@@ -11,12 +11,13 @@ ghost use Rattle.collider.specs.Views.{plainSettings, plainCollider, plainSide}
 ghost use Rattle.manifold_records.specs.Counts.{Counted};
 ghost use Rattle.manifold_records.specs.Recorded.{manifoldsAt};
 ghost use Rattle.manifold_matching.specs.Matched.{manifoldsFrom, OldManifolds};
-ghost use Rattle.contact_records.specs.Layout.{contactSize, manifoldsPlace};
+ghost use Rattle.layout.specs.Contact.{contactFlags, contactManifolds, contactSize};
+ghost use Rattle.layout.specs.Proposal.{proposalSize};
+ghost use Rattle.rules.specs.Limits.{pairManifolds};
 ghost use Rattle.contact_records.specs.StateViews.{flagsOf, cachedOf};
 ghost use Rattle.contact_records.specs.Written.{flagsWords, cacheWords};
 ghost use mathlib.Core.Option.{some};
 ghost use Rattle.contact_parameters.specs.Views.{plainSurface};
-ghost use Rattle.proposals.specs.Layout.{proposalSize};
 ghost use Rattle.proposals.specs.Range.{Proposed};
 ghost use Rattle.proposals.specs.Recorded.{proposalAt, hookAt};
 ghost use Rattle.contact_update.specs.Updates.{ManifoldsRenewed, StateRenewed};
@@ -29,14 +30,19 @@ use contact_parameters::renewing::is_enabled;
 use contact_parameters::renewing::renewed_flags;
 use contact_parameters::renewing::status_bit;
 use contact_parameters::surface::Surface;
-use contact_range::layout::MANIFOLD_SIZE;
-use contact_range::layout::MANIFOLDS_PLACE;
 use contact_records::state::ContactPairFlags;
 use contact_records::state::RecyclingCache;
 use contact_records::state::store_cache;
 use contact_records::state::store_flags;
 use contact_records::state::word_of_int;
 use contact_types::contact_manifold::ContactRecyclingCache;
+use layout::contact::CONTACT_CACHE;
+use layout::contact::CONTACT_COUNT_CHANGE;
+use layout::contact::CONTACT_FLAGS;
+use layout::contact::CONTACT_MANIFOLDS;
+use layout::contact::CONTACT_SPECULATIVE_DISTANCE;
+use layout::manifold::ALL_MANIFOLDS_SIZE;
+use layout::manifold::MANIFOLD_SIZE;
 use manifold_matching::matching::match_manifolds;
 use manifold_records::zeros::store_zeros;
 use math::constants::TENTH;
@@ -83,12 +89,16 @@ fn renew_from(
     requires { ⌜ (length (now words) ≡ contactSize) × OldManifolds (now olds) old × (length (now proposal) ≡ proposalSize) × Proposed (now proposal) 0 ⌝ }
     ensures { λ r. ⌜ ManifoldsRenewed (plainSettings s) (manifoldsFrom (now (olds .entry)) old) (remaining (s .«step_time») (plainSide a) (plainSide b) (plainSurface f) modify (hookAt (now (proposal .entry)) 0) (proposalAt (now (proposal .entry)) 0)) (now (words .entry)) (now (words .exit)) r ⌝ }
 {
-    let first = MANIFOLDS_PLACE + 1;
+    let first = CONTACT_MANIFOLDS + 1;
     let n = store_remaining(proposal, s.step_time, a, b, f, modify, words, first);
     let m = matched_count(s, old, n as u32) as usize;
     match_manifolds(words, first, n, olds, m, TENTH * s.length_unit);
-    store_word(words, MANIFOLDS_PLACE, n as u32);
-    store_zeros(words, first + n * MANIFOLD_SIZE, 486 - n * MANIFOLD_SIZE);
+    store_word(words, CONTACT_MANIFOLDS, n as u32);
+    store_zeros(
+        words,
+        first + n * MANIFOLD_SIZE,
+        ALL_MANIFOLDS_SIZE - n * MANIFOLD_SIZE,
+    );
     n as u32
 }
 
@@ -102,17 +112,17 @@ pub fn renew_manifolds(
     modify: bool,
     proposal: &[u32],
 ) -> u32
-    requires { ⌜ (length (now words) ≡ contactSize) × Counted (now words) manifoldsPlace × (length (now proposal) ≡ proposalSize) × Proposed (now proposal) 0 ⌝ }
-    ensures { λ r. ⌜ ManifoldsRenewed (plainSettings s) (manifoldsAt (now (words .entry)) manifoldsPlace) (remaining (s .«step_time») (plainSide a) (plainSide b) (plainSurface f) modify (hookAt (now (proposal .entry)) 0) (proposalAt (now (proposal .entry)) 0)) (now (words .entry)) (now (words .exit)) r ⌝ }
+    requires { ⌜ (length (now words) ≡ contactSize) × Counted (now words) contactManifolds × (length (now proposal) ≡ proposalSize) × Proposed (now proposal) 0 ⌝ }
+    ensures { λ r. ⌜ ManifoldsRenewed (plainSettings s) (manifoldsAt (now (words .entry)) contactManifolds) (remaining (s .«step_time») (plainSide a) (plainSide b) (plainSurface f) modify (hookAt (now (proposal .entry)) 0) (proposalAt (now (proposal .entry)) 0)) (now (words .entry)) (now (words .exit)) r ⌝ }
 {
-    let old = load_word(words, MANIFOLDS_PLACE);
+    let old = load_word(words, CONTACT_MANIFOLDS);
     if old <= 1 {
-        let mut one = [0u32; 81];
-        load_words(words, MANIFOLDS_PLACE + 1, &mut one);
+        let mut one = [0u32; MANIFOLD_SIZE];
+        load_words(words, CONTACT_MANIFOLDS + 1, &mut one);
         return renew_from(words, &one, old, s, a, b, f, modify, proposal);
     }
-    let mut all = [0u32; 486];
-    load_words(words, MANIFOLDS_PLACE + 1, &mut all);
+    let mut all = [0u32; ALL_MANIFOLDS_SIZE];
+    load_words(words, CONTACT_MANIFOLDS + 1, &mut all);
     renew_from(words, &all, old, s, a, b, f, modify, proposal)
 }
 
@@ -127,14 +137,14 @@ pub fn renew(
     old: u32,
     new: u32,
 ) -> Renewal
-    requires { ⌜ (old ≤ 6) × (new ≤ 6) ⌝ }
+    requires { ⌜ (old ≤ pairManifolds) × (new ≤ pairManifolds) ⌝ }
     ensures { λ r. ⌜ StateRenewed (plainCollider c1) (plainCollider c2) (plainSide a) (plainSide b) (plainSurface f) (flagsOf flags) old new r ⌝ }
 {
     let touching = new != 0;
     let enabled = is_enabled(c1, c2, a, b);
     let change = count_change(old, new);
     Renewal {
-        flags: renewed_flags(flags, a.fixed, b.fixed, enabled, touching),
+        flags: renewed_flags(flags, a.is_static, b.is_static, enabled, touching),
         change: word_of_int(change),
         cache: cache_of(a, b),
         bit: status_bit(flags, enabled, touching, change),
@@ -145,20 +155,20 @@ pub fn renew(
 // The flags, the count change, and 0 for the speculative distance.
 fn store_marks(words: &mut [u32], flags: ContactPairFlags, change: u32)
     requires { ⌜ length (now words) ≡ contactSize ⌝ }
-    ensures { λ _. ⌜ now (words .exit) ≡ put (now (words .entry)) 9 (flagsWords (flagsOf flags) ++ change ∷ 0 ∷ []) ⌝ }
+    ensures { λ _. ⌜ now (words .exit) ≡ put (now (words .entry)) contactFlags (flagsWords (flagsOf flags) ++ change ∷ 0 ∷ []) ⌝ }
 {
-    store_flags(words, 9, flags);
-    store_word(words, 18, change);
-    store_word(words, 19, 0);
+    store_flags(words, CONTACT_FLAGS, flags);
+    store_word(words, CONTACT_COUNT_CHANGE, change);
+    store_word(words, CONTACT_SPECULATIVE_DISTANCE, 0);
 }
 
 // A pair's own words before its manifolds.
 pub fn store_renewal(words: &mut [u32], r: Renewal)
     requires { ⌜ length (now words) ≡ contactSize ⌝ }
-    ensures { λ _. ⌜ now (words .exit) ≡ put (now (words .entry)) 9 (flagsWords (flagsOf (r .flags)) ++ r .change ∷ 0 ∷ cacheWords (some (cachedOf (r .cache)))) ⌝ }
+    ensures { λ _. ⌜ now (words .exit) ≡ put (now (words .entry)) contactFlags (flagsWords (flagsOf (r .flags)) ++ r .change ∷ 0 ∷ cacheWords (some (cachedOf (r .cache)))) ⌝ }
 {
     let flags = r.flags;
     let cache = r.cache;
     store_marks(words, flags, r.change);
-    store_cache(words, 20, RecyclingCache::Cached(cache));
+    store_cache(words, CONTACT_CACHE, RecyclingCache::Cached(cache));
 }

@@ -1,4 +1,4 @@
 pub mod Matched
-pub mod MatchedFits
-pub mod StoredOver
+pub mod MatchedFitLaws
+pub mod StoredOverLaws
 pub mod MatchingLaws

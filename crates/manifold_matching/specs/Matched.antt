@@ -10,11 +10,11 @@ use Rattle.rules.specs.Limits.{storedPoints, pairManifolds}
 use Rattle.rules.specs.Matching.{byNumber, matchedPoint, matchContacts, matchAll}
 use Rattle.rules.specs.Records.{Point, Manifold}
 use Rattle.words.specs.Words.{wordAt, floatWord}
-use Rattle.manifold_records.specs.Layout as place
+use Rattle.layout.specs.Manifold.{manifoldSize}
 use Rattle.manifold_records.specs.Recorded.{manifoldAt}
 use Rattle.manifold_records.specs.Written.{pointWords, manifoldWords}
 use Rattle.contact_records.specs.Fit.{FitPoint, FitManifold, FitManifolds}
-use Rattle.contact_records.specs.Held.{Holds}
+use Rattle.contact_records.specs.HeldLaws.{Holds}
 
 -- the words that matching hands on
 abbrev pub impulseWords : Point → List ℕ
@@ -22,7 +22,7 @@ impulseWords p = floatWord (p .warmStartNormal) ∷ floatWord (p .warmStartTange
 
 -- the first n manifolds of a row that has nothing else
 unfoldable pub manifoldsFrom : List ℕ → ℕ → List Manifold
-manifoldsFrom xs n = map (λ k. manifoldAt xs (k * place.manifoldSize)) (upto n)
+manifoldsFrom xs n = map (λ k. manifoldAt xs (k * manifoldSize)) (upto n)
 
 -- ---- what is asked
 -- a manifold's words stand at that place
@@ -41,8 +41,8 @@ pub record WrittenManifolds (xs : List ℕ) (at n : ℕ) : Type 0 where
 -- a row has m old manifolds, with counts within the limits
 pub record OldManifolds (xs : List ℕ) (m : ℕ) : Type 0 where
   pub manifolds : m ≤ pairManifolds
-  pub long : m * place.manifoldSize ≤ length xs
-  pub points : (k : ℕ) → k < m → wordAt xs (k * place.manifoldSize) ≤ storedPoints
+  pub long : m * manifoldSize ≤ length xs
+  pub points : (k : ℕ) → k < m → wordAt xs (k * manifoldSize) ≤ storedPoints
 
 -- ---- what is promised, of whatever point or manifold's words they are
 pub record PointMatched (square : Float) (olds : List Point) (at : ℕ) (before after : List ℕ) : Type 0 where

@@ -8,7 +8,7 @@ use mathlib.Core.List.{List, [], _∷_, _++_, map}
 use lib.Ieee.{Float}
 use lib.ListN.{length, getD}
 use Rattle.math.specs.Floats.{_⊗_}
-use Rattle.rows.specs.Arrays.{front, front-all, front-next, length-front, getD-front}
+use Rattle.rows.specs.ArrayLaws.{front, front-all, front-next, length-front, getD-front}
 use Rattle.rows.specs.EachLaws.{length-each}
 use Rattle.rows.specs.Laws.{put-next, put-put}
 use Rattle.rows.specs.Rows.{put, each}
@@ -17,17 +17,17 @@ use Rattle.rules.specs.Matching.{byNumber, matches, withImpulses, matchedPoint,
 use Rattle.rule_laws.specs.MatchingLaws.{NoneBefore, none-before-next, matched-found, matched-none}
 use Rattle.rules.specs.Records.{Point, Manifold}
 use Rattle.words.specs.Words.{wordAt, floatAt, floatWord}
-use Rattle.manifold_records.specs.Lengths.{length-point, length-manifold}
-use Rattle.manifold_records.specs.Lists.{map-upto-next, map-upto-is, getD-map-upto, length-map-upto}
+use Rattle.manifold_records.specs.LengthLaws.{length-point, length-manifold}
+use Rattle.manifold_records.specs.ListLaws.{map-upto-next, map-upto-is, getD-map-upto, length-map-upto}
 use Rattle.manifold_records.specs.Recorded.{pointAt, pointsAt, manifoldAt}
 use Rattle.manifold_records.specs.Written.{pointWords, manifoldWords}
-use Rattle.contact_records.specs.Back.{point-held, manifold-held}
+use Rattle.contact_records.specs.BackLaws.{point-held, manifold-held}
 use Rattle.contact_records.specs.Fit.{FitManifold, FitManifolds}
-use Rattle.contact_records.specs.Fits.{manifold-fits}
-use Rattle.contact_records.specs.Held.{Holds, put-holds, holds-each}
+use Rattle.contact_records.specs.FitLaws.{manifold-fits}
+use Rattle.contact_records.specs.HeldLaws.{Holds, put-holds, holds-each}
 use Rattle.manifold_matching.specs.Matched.{impulseWords, manifoldsFrom, WrittenManifold, WrittenManifolds, OldManifolds, PointMatched, ManifoldMatched, AllMatched, ManifoldsMatched}
-use Rattle.manifold_matching.specs.MatchedFits.{each-upto, all-matched}
-use Rattle.manifold_matching.specs.StoredOver.{put-held, stored-over-each, impulses-stored, points-in, point-stored}
+use Rattle.manifold_matching.specs.MatchedFitLaws.{each-upto, all-matched}
+use Rattle.manifold_matching.specs.StoredOverLaws.{put-held, stored-over-each, impulses-stored, points-in, point-stored}
 
 -- ---- the impulses, word by word
 pub impulses-taken : (xs : List ℕ) (at : ℕ) (olds : List ℕ) (from : ℕ) {n t u : Float} {a b c : List ℕ} → n ≡ floatAt olds (from + 13) → a ≡ put xs (at + 13) (floatWord n ∷ [])

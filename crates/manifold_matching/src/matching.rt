@@ -4,9 +4,18 @@ ghost use Prim.Native.Nat.{_*_, _+_, _≤_};
 ghost use lib.ListN.{length};
 ghost use Rattle.rows.specs.Rows.{put};
 ghost use Rattle.words.specs.Words.{wordAt};
+ghost use Rattle.layout.specs.Manifold.{manifoldSize, pointsSize};
+ghost use Rattle.layout.specs.Point.{pointSize, pointWarmStartNormalImpulse};
+ghost use Rattle.rules.specs.Limits.{storedPoints};
 ghost use Rattle.manifold_records.specs.Recorded.{pointAt, pointsAt, manifoldAt};
 ghost use Rattle.manifold_matching.specs.Matched.{impulseWords, manifoldsFrom, WrittenManifold, WrittenManifolds, OldManifolds, PointMatched, ManifoldMatched, AllMatched, ManifoldsMatched};
 use contact_types::matching::matches;
+use layout::manifold::MANIFOLD_POINTS;
+use layout::manifold::MANIFOLD_SIZE;
+use layout::point::POINT_SIZE;
+use layout::point::POINT_WARM_START_NORMAL_IMPULSE;
+use layout::point::POINT_WARM_START_TANGENT_IMPULSE;
+use layout::point::POINT_WARM_START_TANGENT_IMPULSE_Y;
 use manifold_records::point::load_point;
 use words::row::load_float;
 use words::row::load_word;
@@ -14,12 +23,24 @@ use words::row::store_float;
 
 // The two warm start impulses of the old point at a place, and nothing else of it.
 fn take_impulses(words: &mut [u32], at: usize, olds: &[u32], from: usize)
-    requires { ⌜ (at + 18 ≤ length (now words)) × (from + 18 ≤ length (now olds)) ⌝ }
-    ensures { λ _. ⌜ now (words .exit) ≡ put (now (words .entry)) (at + 13) (impulseWords (pointAt (now (olds .entry)) from)) ⌝ }
+    requires { ⌜ (at + pointSize ≤ length (now words)) × (from + pointSize ≤ length (now olds)) ⌝ }
+    ensures { λ _. ⌜ now (words .exit) ≡ put (now (words .entry)) (at + pointWarmStartNormalImpulse) (impulseWords (pointAt (now (olds .entry)) from)) ⌝ }
 {
-    store_float(words, at + 13, load_float(olds, from + 13));
-    store_float(words, at + 14, load_float(olds, from + 14));
-    store_float(words, at + 15, load_float(olds, from + 15));
+    store_float(
+        words,
+        at + POINT_WARM_START_NORMAL_IMPULSE,
+        load_float(olds, from + POINT_WARM_START_NORMAL_IMPULSE),
+    );
+    store_float(
+        words,
+        at + POINT_WARM_START_TANGENT_IMPULSE,
+        load_float(olds, from + POINT_WARM_START_TANGENT_IMPULSE),
+    );
+    store_float(
+        words,
+        at + POINT_WARM_START_TANGENT_IMPULSE_Y,
+        load_float(olds, from + POINT_WARM_START_TANGENT_IMPULSE_Y),
+    );
 }
 
 // The first of the n old points that matches gives its impulses.
@@ -31,15 +52,15 @@ fn match_point(
     n: usize,
     threshold_squared: f32,
 )
-    requires { ⌜ (at + 18 ≤ length (now words)) × (n ≤ 4) × (from + 72 ≤ length (now olds)) ⌝ }
+    requires { ⌜ (at + pointSize ≤ length (now words)) × (n ≤ storedPoints) × (from + pointsSize ≤ length (now olds)) ⌝ }
     ensures { λ _. ⌜ PointMatched «threshold_squared» (pointsAt (now (olds .entry)) from n) at (now (words .entry)) (now (words .exit)) ⌝ }
 {
     let new = load_point(words, at);
     let mut k = 0;
     while k < n {
-        let old = load_point(olds, from + k * 18);
+        let old = load_point(olds, from + k * POINT_SIZE);
         if matches(new, old, threshold_squared) {
-            take_impulses(words, at, olds, from + k * 18);
+            take_impulses(words, at, olds, from + k * POINT_SIZE);
             return;
         }
         k += 1;
@@ -48,7 +69,7 @@ fn match_point(
 
 // Each point of the manifold, against the points of one old manifold.
 fn match_contacts(words: &mut [u32], at: usize, olds: &[u32], from: usize, threshold: f32)
-    requires { ⌜ WrittenManifold (now words) at × (at + 81 ≤ length (now words)) × (from + 81 ≤ length (now olds)) × (wordAt (now olds) from ≤ 4) ⌝ }
+    requires { ⌜ WrittenManifold (now words) at × (at + manifoldSize ≤ length (now words)) × (from + manifoldSize ≤ length (now olds)) × (wordAt (now olds) from ≤ storedPoints) ⌝ }
     ensures { λ _. ⌜ ManifoldMatched threshold (manifoldAt (now (olds .entry)) from .points) at (now (words .entry)) (now (words .exit)) ⌝ }
 {
     let threshold_squared = threshold * threshold;
@@ -56,19 +77,26 @@ fn match_contacts(words: &mut [u32], at: usize, olds: &[u32], from: usize, thres
     let n = load_word(olds, from) as usize;
     let mut k = 0;
     while k < count {
-        match_point(words, at + 9 + k * 18, olds, from + 9, n, threshold_squared);
+        match_point(
+            words,
+            at + MANIFOLD_POINTS + k * POINT_SIZE,
+            olds,
+            from + MANIFOLD_POINTS,
+            n,
+            threshold_squared,
+        );
         k += 1;
     }
 }
 
 // Against each of the m old manifolds in turn: a later one overrides.
 fn match_all(words: &mut [u32], at: usize, olds: &[u32], m: usize, threshold: f32)
-    requires { ⌜ WrittenManifold (now words) at × (at + 81 ≤ length (now words)) × OldManifolds (now olds) m ⌝ }
+    requires { ⌜ WrittenManifold (now words) at × (at + manifoldSize ≤ length (now words)) × OldManifolds (now olds) m ⌝ }
     ensures { λ _. ⌜ AllMatched threshold (manifoldsFrom (now (olds .entry)) m) at (now (words .entry)) (now (words .exit)) ⌝ }
 {
     let mut j = 0;
     while j < m {
-        match_contacts(words, at, olds, j * 81, threshold);
+        match_contacts(words, at, olds, j * MANIFOLD_SIZE, threshold);
         j += 1;
     }
 }
@@ -82,12 +110,12 @@ pub fn match_manifolds(
     m: usize,
     threshold: f32,
 )
-    requires { ⌜ WrittenManifolds (now words) at n × (at + n * 81 ≤ length (now words)) × OldManifolds (now olds) m ⌝ }
+    requires { ⌜ WrittenManifolds (now words) at n × (at + n * manifoldSize ≤ length (now words)) × OldManifolds (now olds) m ⌝ }
     ensures { λ _. ⌜ ManifoldsMatched threshold (manifoldsFrom (now (olds .entry)) m) at n (now (words .entry)) (now (words .exit)) ⌝ }
 {
     let mut i = 0;
     while i < n {
-        match_all(words, at + i * 81, olds, m, threshold);
+        match_all(words, at + i * MANIFOLD_SIZE, olds, m, threshold);
         i += 1;
     }
 }

@@ -1,8 +1,7 @@
-pub mod Layout
 pub mod Recorded
 pub mod Written
 pub mod Counts
-pub mod Made
-pub mod Lists
-pub mod Lengths
-pub mod Stored
+pub mod MadeLaws
+pub mod ListLaws
+pub mod LengthLaws
+pub mod StoredLaws

@@ -6,7 +6,8 @@ use Rattle.rows.specs.Rows.{each}
 use Rattle.rules.specs.Limits.{storedPoints, pairManifolds}
 use Rattle.rules.specs.Records.{Point, Manifold}
 use Rattle.words.specs.Words.{floatWord, vec3Words}
-use Rattle.manifold_records.specs.Layout as place
+use Rattle.layout.specs.Manifold.{manifoldSize}
+use Rattle.layout.specs.Point.{pointSize}
 
 unfoldable pub zeros : ℕ → List ℕ
 zeros zero = []
@@ -25,7 +26,7 @@ pointWords p =
 unfoldable pub manifoldWords : Manifold → List ℕ
 manifoldWords m =
     length (m .points) ∷ vec3Words (m .normal) ++ (floatWord (m .friction) ∷ floatWord (m .restitution) ∷ []) ++ vec3Words (m .tangentVelocity)
-    ++ padded (storedPoints * place.pointSize) (each pointWords (m .points))
+    ++ padded (storedPoints * pointSize) (each pointWords (m .points))
 
 unfoldable pub manifoldsWords : List Manifold → List ℕ
-manifoldsWords ms = length ms ∷ padded (pairManifolds * place.manifoldSize) (each manifoldWords ms)
+manifoldsWords ms = length ms ∷ padded (pairManifolds * manifoldSize) (each manifoldWords ms)

@@ -4,12 +4,26 @@ ghost use mathlib.Core.List.{map};
 ghost use Prim.Native.Nat.{_+_, _≤_};
 ghost use lib.ListN.{length, take};
 ghost use Rattle.rows.specs.Rows.{put, each};
+ghost use Rattle.layout.specs.Manifold.{pointsSize};
+ghost use Rattle.layout.specs.Point.{pointSize};
+ghost use Rattle.rules.specs.Limits.{storedPoints};
 ghost use Rattle.contact_types.specs.Views.{pointOf};
 ghost use Rattle.manifold_records.specs.Recorded.{pointAt};
 ghost use Rattle.manifold_records.specs.Written.{pointWords};
-ghost use Rattle.manifold_records.specs.Made.{vec3By};
+ghost use Rattle.manifold_records.specs.MadeLaws.{vec3By};
 use contact_types::contact_point::ContactPoint;
 use contact_types::feature_id::PackedFeatureId;
+use layout::limits::STORED_POINTS;
+use layout::point::POINT_BASE_PENETRATION;
+use layout::point::POINT_FEATURE2;
+use layout::point::POINT_FEATURES;
+use layout::point::POINT_NORMAL_IMPULSE;
+use layout::point::POINT_NORMAL_SPEED;
+use layout::point::POINT_PENETRATION;
+use layout::point::POINT_SIZE;
+use layout::point::POINT_WARM_START_NORMAL_IMPULSE;
+use layout::point::POINT_WARM_START_TANGENT_IMPULSE;
+use layout::point::POINT_WARM_START_TANGENT_IMPULSE_Y;
 use math::bits::bits_of;
 use math::bits::float_of;
 use math::vec::Vec2;
@@ -28,38 +42,38 @@ fn vec3_of(x: u32, y: u32, z: u32) -> Vec3
 }
 
 // The struct, of its words.
-fn point_of(w: [u32; 18]) -> ContactPoint
+fn point_of(w: [u32; POINT_SIZE]) -> ContactPoint
     ensures { λ r. ⌜ pointOf r ≡ pointAt w 0 ⌝ }
 {
     ContactPoint {
         anchor1: vec3_of(w[0], w[1], w[2]),
         anchor2: vec3_of(w[3], w[4], w[5]),
         point: vec3_of(w[6], w[7], w[8]),
-        penetration: float_of(w[9]),
-        base_penetration: float_of(w[10]),
-        normal_impulse: float_of(w[11]),
-        normal_speed: float_of(w[12]),
-        warm_start_normal_impulse: float_of(w[13]),
+        penetration: float_of(w[POINT_PENETRATION]),
+        base_penetration: float_of(w[POINT_BASE_PENETRATION]),
+        normal_impulse: float_of(w[POINT_NORMAL_IMPULSE]),
+        normal_speed: float_of(w[POINT_NORMAL_SPEED]),
+        warm_start_normal_impulse: float_of(w[POINT_WARM_START_NORMAL_IMPULSE]),
         warm_start_tangent_impulse: Vec2 {
-            x: float_of(w[14]),
-            y: float_of(w[15]),
+            x: float_of(w[POINT_WARM_START_TANGENT_IMPULSE]),
+            y: float_of(w[POINT_WARM_START_TANGENT_IMPULSE_Y]),
         },
-        feature_id1: PackedFeatureId(w[16]),
-        feature_id2: PackedFeatureId(w[17]),
+        feature_id1: PackedFeatureId(w[POINT_FEATURES]),
+        feature_id2: PackedFeatureId(w[POINT_FEATURE2]),
     }
 }
 
 pub fn load_point(g: &[u32], at: usize) -> ContactPoint
-    requires { ⌜ at + 18 ≤ length (now g) ⌝ }
+    requires { ⌜ at + pointSize ≤ length (now g) ⌝ }
     ensures { λ r. ⌜ pointOf r ≡ pointAt (now (g .entry)) at ⌝ }
 {
-    let mut w = [0u32; 18];
+    let mut w = [0u32; POINT_SIZE];
     load_words(g, at, &mut w);
     point_of(w)
 }
 
 // The words, as a value.
-fn point_words(p: ContactPoint) -> [u32; 18]
+fn point_words(p: ContactPoint) -> [u32; POINT_SIZE]
     ensures { λ r. ⌜ r ≡ pointWords (pointOf p) ⌝ }
 {
     let a = p.anchor1;
@@ -91,7 +105,7 @@ fn point_words(p: ContactPoint) -> [u32; 18]
 }
 
 pub fn store_point(g: &mut [u32], at: usize, p: ContactPoint)
-    requires { ⌜ at + 18 ≤ length (now g) ⌝ }
+    requires { ⌜ at + pointSize ≤ length (now g) ⌝ }
     ensures { λ _. ⌜ now (g .exit) ≡ put (now (g .entry)) at (pointWords (pointOf p)) ⌝ }
 {
     let w = point_words(p);
@@ -99,14 +113,14 @@ pub fn store_point(g: &mut [u32], at: usize, p: ContactPoint)
 }
 
 // The first n of four points, one after another.
-pub fn store_listed(g: &mut [u32], at: usize, points: [ContactPoint; 4], n: usize)
-    requires { ⌜ (n ≤ 4) × (at + 72 ≤ length (now g)) ⌝ }
+pub fn store_listed(g: &mut [u32], at: usize, points: [ContactPoint; STORED_POINTS], n: usize)
+    requires { ⌜ (n ≤ storedPoints) × (at + pointsSize ≤ length (now g)) ⌝ }
     ensures { λ _. ⌜ now (g .exit) ≡ put (now (g .entry)) at (each pointWords (map pointOf (take n points))) ⌝ }
 {
     let mut k = 0;
     while k < n {
         let p = points[k];
-        store_point(g, at + k * 18, p);
+        store_point(g, at + k * POINT_SIZE, p);
         k += 1;
     }
 }

@@ -12,8 +12,8 @@ use lib.Ieee.{Float, nan, inf, fin, binary32, up, down, lt, fits}
 use lib.Ieee.Fits.{up-pos}
 use Rattle.math.specs.Root.{root, rootOf}
 use Rattle.math.specs.Rooted.{plusZero, RootIs}
-use Rattle.math.proofs.Cases.{of-negative}
-use Rattle.math.proofs.Nearest.{root-nearest, root-only}
+use Rattle.math.proofs.CaseLaws.{of-negative}
+use Rattle.math.proofs.NearestLaws.{root-nearest, root-only}
 
 pub root-ieee : RootIs root
 unfolding root rootOf

@@ -6,6 +6,7 @@ use lib.ListN.{getD}
 use Rattle.math.specs.declared.vec.Vec3.{Vec3}
 use Rattle.rules.specs.Filtering.{prunePoint}
 use Rattle.rules.specs.Pruning.{kept}
+use Rattle.rules.specs.Limits.{proposedPoints, storedPoints}
 use Rattle.contact_types.specs.Pruned.{pointBy, keptOf}
 use Rattle.contact_types.specs.Views.{pointOf}
 use Rattle.contact_types.specs.declared.contact_point.ContactPoint.{ContactPoint}
@@ -19,18 +20,18 @@ pub record Viewed (points : List ContactPoint) (view : List PrunePoint) (count :
 
 -- The promise of `kept_numbers`: the first four where there are no more, else those that pruning keeps.
 pub record KeptNumbers (normal : Vec3) (count : ℕ) (view : List PrunePoint) (r : KeptPoints) : Type 0 where
-  pub few : count ≤ 4 → r ≡ record { count = count; first = 0; second = 1; third = 2; fourth = 3 }
-  pub many : 4 < count → keptOf r ≡ kept normal count (pointBy view)
+  pub few : count ≤ storedPoints → r ≡ record { count = count; first = 0; second = 1; third = 2; fourth = 3 }
+  pub many : storedPoints < count → keptOf r ≡ kept normal count (pointBy view)
   pub most : r .count ≤ 4
 
 -- The promise of `place_of`.
 pub record PlaceOf (i r : ℕ) : Type 0 where
   pub below : r < 32
-  pub same : i < 32 → r ≡ i
+  pub same : i < proposedPoints → r ≡ i
 
 -- the point of that number
 pub record Picked (points : List ContactPoint) (i : ℕ) (r : ContactPoint) : Type 0 where
-  pub there : (past : ContactPoint) → i < 32 → r ≡ getD points i past
+  pub there : (past : ContactPoint) → i < proposedPoints → r ≡ getD points i past
 
 -- each of four places has the point of its number
 pub record PickedKept (from : List ContactPoint) (k : KeptPoints) (r : ManifoldPoints) : Type 0 where

@@ -9,10 +9,10 @@ use Rattle.rows.specs.Slots.{upto}
 use Rattle.rules.specs.Filtering.{stays, staying, isEmpty, withoutEmpty}
 use Rattle.rules.specs.Inputs.{ProposedPoint, ProposedManifold}
 use Rattle.rules.specs.Records.{Point, Manifold}
-use Rattle.manifold_records.specs.Lists.{map-upto-next}
+use Rattle.manifold_records.specs.ListLaws.{map-upto-next}
 use Rattle.contact_types.specs.Views.{pointOf}
 use Rattle.contact_types.specs.declared.contact_point.ContactPoint.{ContactPoint}
-use Rattle.proposals.specs.Layout as place
+use Rattle.layout.specs.Proposal.{proposedPointSize}
 use Rattle.proposals.specs.Recorded.{proposedPointAt, proposedPointsAt}
 use Rattle.narrow_phase.specs.ListLaws.{view-step}
 use Rattle.narrow_phase.specs.Views.{firstPoints}
@@ -36,24 +36,24 @@ module _ (t d : Float) where
   -- one more proposed point, if it stays
   pub staying-next : (f : ProposedPoint → Point) (w : List ℕ) (at k : ℕ)
       → staying t d (map f (proposedPointsAt w at (k + 1)))
-      ≡ staying t d (map f (proposedPointsAt w at k)) ++ cond (stays t d (f (proposedPointAt w (at + k * place.pointSize)))) (f (proposedPointAt w (at + k * place.pointSize)) ∷ []) []
+      ≡ staying t d (map f (proposedPointsAt w at k)) ++ cond (stays t d (f (proposedPointAt w (at + k * proposedPointSize)))) (f (proposedPointAt w (at + k * proposedPointSize)) ∷ []) []
   unfolding proposedPointsAt
   staying-next f w at k =
-      let before = map (λ j. proposedPointAt w (at + j * place.pointSize)) (upto k) in
-      let next = proposedPointAt w (at + k * place.pointSize) in
-      ap (λ r. staying t d (map f r)) (map-upto-next (λ j. proposedPointAt w (at + j * place.pointSize)) k)
+      let before = map (λ j. proposedPointAt w (at + j * proposedPointSize)) (upto k) in
+      let next = proposedPointAt w (at + k * proposedPointSize) in
+      ap (λ r. staying t d (map f r)) (map-upto-next (λ j. proposedPointAt w (at + j * proposedPointSize)) k)
       ∙ ap (staying t d) (map-append f before (next ∷ []))
       ∙ staying-append (map f before) (f next ∷ [])
       ∙ ap (λ r. staying t d (map f before) ++ r) (staying-one (f next))
 
   -- a turn of a loop that keeps them in front of an array
   pub stays-step : (f : ProposedPoint → Point) (w : List ℕ) (at k c : ℕ) (ps : List ContactPoint) {one : ℕ} {q : ContactPoint} {b : Bool}
-      → firstPoints c ps ≡ staying t d (map f (proposedPointsAt w at k)) → pointOf q ≡ f (proposedPointAt w (at + k * place.pointSize))
+      → firstPoints c ps ≡ staying t d (map f (proposedPointsAt w at k)) → pointOf q ≡ f (proposedPointAt w (at + k * proposedPointSize))
       → b ≡ stays t d (pointOf q) → one ≡ cond b 1 0 → c < length ps
       → firstPoints (c + one) (set ps c q) ≡ staying t d (map f (proposedPointsAt w at (k + 1)))
   unfolding firstPoints
   stays-step f w at k c ps {one} {q} {b} e p s o l =
-      let next = proposedPointAt w (at + k * place.pointSize) in
+      let next = proposedPointAt w (at + k * proposedPointSize) in
       view-step pointOf c ps b p o l
       ∙ (λ i. e i ++ cond ((s ∙ ap (stays t d) p) i) (f next ∷ []) [])
       ∙ sym (staying-next f w at k)

@@ -26,13 +26,13 @@ use Rattle.collider.specs.Views.{plainSide}
 use Rattle.collider.specs.declared.side.Side.{Side}
 use Rattle.contact_parameters.specs.Views.{plainSurface}
 use Rattle.contact_parameters.specs.declared.surface.Surface.{Surface}
-use Rattle.manifold_records.specs.Lengths.{length-point, length-manifold}
-use Rattle.manifold_records.specs.Stored.{padded-stored}
-use Rattle.manifold_records.specs.Lists.{length-padded}
+use Rattle.manifold_records.specs.LengthLaws.{length-point, length-manifold}
+use Rattle.manifold_records.specs.StoredLaws.{padded-stored}
+use Rattle.manifold_records.specs.ListLaws.{length-padded}
 use Rattle.manifold_records.specs.Written.{zeros, padded, pointWords, manifoldWords}
 use Rattle.contact_types.specs.Views.{pointOf}
 use Rattle.contact_types.specs.declared.contact_point.ContactPoint.{ContactPoint}
-use Rattle.proposals.specs.Layout as place
+use Rattle.layout.specs.Proposal.{proposalCount, proposalManifolds, proposedManifoldNormal, proposedManifoldPoints, proposedManifoldSize, proposedPointSize}
 use Rattle.proposals.specs.Recorded.{proposedPointAt, proposedPointsAt, proposedManifoldAt, proposalAt}
 use Rattle.narrow_phase.specs.ListLaws.{length-view}
 use Rattle.narrow_phase.specs.StayingLaws.{staying-next, withoutEmpty-next}
@@ -54,13 +54,13 @@ length-next us a e = length-append us (a ∷ []) ∙ ap (λ (k : ℕ). k + 1) e
 
 -- ---- points
 module _ (t d : Float) (f : ProposedPoint → Point) (w : List ℕ) (from k : ℕ) (xs : List ℕ) (at c : ℕ) {ys : List ℕ} {q : ContactPoint} {b : Bool}
-    (before : PointsStored (staying t d (map f (proposedPointsAt w from k))) at xs ys c) (moved : pointOf q ≡ f (proposedPointAt w (from + k * place.pointSize)))
+    (before : PointsStored (staying t d (map f (proposedPointsAt w from k))) at xs ys c) (moved : pointOf q ≡ f (proposedPointAt w (from + k * proposedPointSize)))
     (tested : b ≡ stays t d (pointOf q)) where
   abbrev stayed : ℕ → List Point
   stayed k = staying t d (map f (proposedPointsAt w from k))
 
   abbrev next : Point
-  next = f (proposedPointAt w (from + k * place.pointSize))
+  next = f (proposedPointAt w (from + k * proposedPointSize))
 
   goes-on : (c : Bool) → b ≡ c → stayed (k + 1) ≡ stayed k ++ cond c (next ∷ []) []
   goes-on c e = staying-next t d f w from k ∙ ap (λ (s : Bool). stayed k ++ cond s (next ∷ []) []) (sym (ap (stays t d) moved) ∙ sym tested ∙ e)
@@ -133,8 +133,8 @@ whole-stored m at xs {ys} {zs} {us} {c} p z u =
     ∙ ap (λ (k : ℕ). put xs at (sharedWords k (m .normal) (m .friction) (m .restitution) (m .tangentVelocity) ++ padded 72 ws)) (sym (p .count))
 
 module _ (w : List ℕ) (from : ℕ) (t : Float) (a b : Side) (f : Surface) (at : ℕ) (xs : List ℕ) {n : ℕ} {normal : Vec3} {ys : List ℕ} {c : ℕ}
-    (counted : n ≡ wordAt w from) (read : normal ≡ vec3At w (from + place.normalPlace))
-    (stored : PointsStored (pruned normal (staying t (f .«effective_speculative») (map (movedPoint (plainSide a) (plainSide b) (f .margins) normal) (proposedPointsAt w (from + place.pointsPlace) n)))) (at + 9) xs ys c) where
+    (counted : n ≡ wordAt w from) (read : normal ≡ vec3At w (from + proposedManifoldNormal))
+    (stored : PointsStored (pruned normal (staying t (f .«effective_speculative») (map (movedPoint (plainSide a) (plainSide b) (f .margins) normal) (proposedPointsAt w (from + proposedManifoldPoints) n)))) (at + 9) xs ys c) where
   abbrev left : Manifold
   left = filtered t (plainSide a) (plainSide b) (plainSurface f) (proposedManifoldAt w from)
 
@@ -142,7 +142,7 @@ module _ (w : List ℕ) (from : ℕ) (t : Float) (a b : Side) (f : Surface) (at 
   unfolding filtered proposedManifoldAt
   points-left =
       subst (λ (ps : List Point). PointsStored ps (at + 9) xs ys c)
-      (λ j. pruned (read j) (staying t (f .«effective_speculative») (map (movedPoint (plainSide a) (plainSide b) (f .margins) (read j)) (proposedPointsAt w (from + place.pointsPlace) (counted j))))) stored
+      (λ j. pruned (read j) (staying t (f .«effective_speculative») (map (movedPoint (plainSide a) (plainSide b) (f .margins) (read j)) (proposedPointsAt w (from + proposedManifoldPoints) (counted j))))) stored
 
   -- no point is left
   pub manifold-empty : c ≡ 0 → ManifoldStored left at xs ys 0
@@ -198,11 +198,11 @@ pub manifolds-length : {ms : List Manifold} {at : ℕ} {xs ys : List ℕ} {c : �
 manifolds-length {ms} {at} {xs} p = ap length (p .words) ∙ length-put xs at (each manifoldWords ms)
 
 -- all that are proposed
-pub all-stored : (w : List ℕ) (f : ProposedManifold → Manifold) {n : ℕ} {at : ℕ} {xs ys : List ℕ} {c : ℕ} → n ≡ wordAt w place.countPlace
-    → ManifoldsStored (withoutEmpty (map f (map (λ j. proposedManifoldAt w (place.manifoldsPlace + j * place.manifoldSize)) (upto n)))) at xs ys c → ManifoldsStored (withoutEmpty (map f (proposalAt w 0))) at xs ys c
+pub all-stored : (w : List ℕ) (f : ProposedManifold → Manifold) {n : ℕ} {at : ℕ} {xs ys : List ℕ} {c : ℕ} → n ≡ wordAt w proposalCount
+    → ManifoldsStored (withoutEmpty (map f (map (λ j. proposedManifoldAt w (proposalManifolds + j * proposedManifoldSize)) (upto n)))) at xs ys c → ManifoldsStored (withoutEmpty (map f (proposalAt w 0))) at xs ys c
 unfolding proposalAt
 all-stored w f {n} {at} {xs} {ys} {c} e =
-    subst (λ (m : ℕ). ManifoldsStored (withoutEmpty (map f (map (λ j. proposedManifoldAt w (place.manifoldsPlace + j * place.manifoldSize)) (upto m)))) at xs ys c) e
+    subst (λ (m : ℕ). ManifoldsStored (withoutEmpty (map f (map (λ j. proposedManifoldAt w (proposalManifolds + j * proposedManifoldSize)) (upto m)))) at xs ys c) e
 
 -- ---- the hook's answer
 module _ (t : Float) (a b : sides.Side) (f : surfaces.Surface) (answer : Bool) (proposal : List ProposedManifold) (at : ℕ) (xs : List ℕ) {h : Bool} (asked : h ≡ answer) where

@@ -1,6 +1,5 @@
 // A pair's new manifolds, from those proposed: points moved, filtered and pruned, empty manifolds left out. Rules 9 and 10.
 ghost use mathlib.Core.Path.{_≡_};
-ghost use mathlib.Core.Bool.{cond};
 ghost use mathlib.Core.List.{[], _∷_, _++_, map};
 ghost use Prim.Native.Nat.{_+_, _≤_};
 ghost use lib.ListN.{length};
@@ -12,7 +11,9 @@ ghost use Rattle.collider.specs.Views.{plainSide};
 ghost use Rattle.contact_parameters.specs.Views.{plainSurface};
 ghost use Rattle.contact_types.specs.Pruned.{prunePointOf};
 ghost use Rattle.contact_types.specs.Views.{pointOf};
-ghost use Rattle.proposals.specs.Layout.{manifoldSize, proposalSize};
+ghost use Rattle.layout.specs.Manifold.{allManifoldsSize, manifoldSize, pointsSize};
+ghost use Rattle.layout.specs.Proposal.{proposalSize, proposedManifoldSize, proposedPointSize, proposedPointsSize};
+ghost use Rattle.rules.specs.Limits.{proposedPoints, storedPoints};
 ghost use Rattle.proposals.specs.Range.{Proposed};
 ghost use Rattle.proposals.specs.Recorded.{proposedPointAt, proposedPointsAt, proposedManifoldAt, proposalAt, hookAt};
 ghost use Rattle.narrow_phase.specs.Views.{PrunedTo, PointsStored, ManifoldStored, ManifoldsStored};
@@ -25,35 +26,35 @@ use contact_types::contact_point::ContactPoint;
 use contact_types::pruning::KeptPoints;
 use contact_types::pruning::PrunePoint;
 use contact_types::pruning::prune_points;
+use layout::limits::PROPOSED_POINTS;
+use layout::limits::STORED_POINTS;
+use layout::manifold::MANIFOLD_POINTS;
+use layout::manifold::MANIFOLD_SIZE;
+use layout::manifold::POINTS_SIZE;
+use layout::point::POINT_SIZE;
+use layout::proposal::PROPOSAL_COUNT;
+use layout::proposal::PROPOSAL_HOOK;
+use layout::proposal::PROPOSAL_MANIFOLDS;
+use layout::proposal::PROPOSED_MANIFOLD_NORMAL;
+use layout::proposal::PROPOSED_MANIFOLD_POINTS;
+use layout::proposal::PROPOSED_MANIFOLD_SIZE;
+use layout::proposal::PROPOSED_POINT_SIZE;
 use manifold_records::point::store_listed;
 use manifold_records::point::store_point;
 use manifold_records::zeros::store_zeros;
 use math::bits::bits_of;
 use math::vec::Vec3;
-use proposals::layout::COUNT_PLACE;
-use proposals::layout::HOOK_PLACE;
-use proposals::layout::MANIFOLD_SIZE;
-use proposals::layout::MANIFOLDS_PLACE;
-use proposals::layout::NORMAL_PLACE;
-use proposals::layout::POINT_SIZE;
-use proposals::layout::POINTS_PLACE;
 use proposals::proposal::load_hook;
 use proposals::proposal::load_proposed_point;
 use words::row::load_word;
+use words::row::mark_word;
 use words::row::store_words;
 use words::vec::load_vec3;
 
 // The points of a new manifold: the first `count`.
 pub struct ManifoldPoints {
-    pub points: [ContactPoint; 4],
+    pub points: [ContactPoint; STORED_POINTS],
     pub count: u32,
-}
-
-// What counts is 1. The next one takes the place of one that does not.
-fn one_if(counts: bool) -> usize
-    ensures { λ r. ⌜ r ≡ cond counts 1 0 ⌝ }
-{
-    if counts { 1 } else { 0 }
 }
 
 // A proposed point, moved.
@@ -65,7 +66,7 @@ fn moved_point_at(
     margins: f32,
     normal: Vec3,
 ) -> ContactPoint
-    requires { ⌜ at + 12 ≤ length (now words) ⌝ }
+    requires { ⌜ at + proposedPointSize ≤ length (now words) ⌝ }
     ensures { λ r. ⌜ pointOf r ≡ movedPoint (plainSide a) (plainSide b) margins normal (proposedPointAt (now (words .entry)) at) ⌝ }
 {
     let p = load_proposed_point(words, at);
@@ -84,11 +85,11 @@ fn prune_point(p: ContactPoint) -> PrunePoint
 }
 
 // Four points or fewer are kept as they are, more are pruned.
-fn kept_numbers(view: [PrunePoint; 32], count: usize, normal: Vec3) -> KeptPoints
-    requires { ⌜ count ≤ 32 ⌝ }
+fn kept_numbers(view: [PrunePoint; PROPOSED_POINTS], count: usize, normal: Vec3) -> KeptPoints
+    requires { ⌜ count ≤ proposedPoints ⌝ }
     ensures { λ r. ⌜ KeptNumbers normal count view r ⌝ }
 {
-    if count <= 4 {
+    if count <= STORED_POINTS {
         return KeptPoints {
             count: count as u32,
             first: 0,
@@ -104,7 +105,11 @@ fn kept_numbers(view: [PrunePoint; 32], count: usize, normal: Vec3) -> KeptPoint
 fn place_of(i: u32) -> usize
     ensures { λ r. ⌜ PlaceOf i r ⌝ }
 {
-    if i < 32 { i as usize } else { 0 }
+    if (i as usize) < PROPOSED_POINTS {
+        i as usize
+    } else {
+        0
+    }
 }
 
 // The n points from a place on, each read, moved and held against the contact distance; of those that stay, the ones that are kept.
@@ -119,23 +124,24 @@ fn kept_points(
     b: Side,
     f: Surface,
 ) -> ManifoldPoints
-    requires { ⌜ (n ≤ 32) × (at + 384 ≤ length (now words)) ⌝ }
+    requires { ⌜ (n ≤ proposedPoints) × (at + proposedPointsSize ≤ length (now words)) ⌝ }
     ensures { λ r. ⌜ PrunedTo (pruned normal (staying «step_time» (f .«effective_speculative») (map (movedPoint (plainSide a) (plainSide b) (f .margins) normal) (proposedPointsAt (now (words .entry)) at n)))) r ⌝ }
 {
     let margins = f.margins;
     let distance = f.effective_speculative;
     let none = ContactPoint::new(Vec3::ZERO, Vec3::ZERO, Vec3::ZERO, 0.0);
     let unseen = prune_point(none);
-    let mut points = [none; 32];
-    let mut view = [unseen; 32];
+    let mut points = [none; PROPOSED_POINTS];
+    let mut view = [unseen; PROPOSED_POINTS];
     let mut count: usize = 0;
     let mut k = 0;
     while k < n {
-        let p = moved_point_at(words, at + k * POINT_SIZE, a, b, margins, normal);
+        let p = moved_point_at(words, at + k * PROPOSED_POINT_SIZE, a, b, margins, normal);
         let seen = prune_point(p);
         points[count] = p;
         view[count] = seen;
-        count += one_if(stays(step_time, distance, p));
+        // The next one takes the place of one that does not stay.
+        count += mark_word(stays(step_time, distance, p)) as usize;
         k += 1;
     }
     let kept = kept_numbers(view, count, normal);
@@ -162,7 +168,7 @@ fn store_few(
     words: &mut [u32],
     to: usize,
 ) -> usize
-    requires { ⌜ (n ≤ 4) × (at + 384 ≤ length (now proposal)) × (to + 72 ≤ length (now words)) ⌝ }
+    requires { ⌜ (n ≤ storedPoints) × (at + proposedPointsSize ≤ length (now proposal)) × (to + pointsSize ≤ length (now words)) ⌝ }
     ensures { λ r. ⌜ PointsStored (pruned normal (staying «step_time» (f .«effective_speculative») (map (movedPoint (plainSide a) (plainSide b) (f .margins) normal) (proposedPointsAt (now (proposal .entry)) at n)))) to (now (words .entry)) (now (words .exit)) r ⌝ }
 {
     let margins = f.margins;
@@ -170,9 +176,16 @@ fn store_few(
     let mut count: usize = 0;
     let mut k = 0;
     while k < n {
-        let p = moved_point_at(proposal, at + k * POINT_SIZE, a, b, margins, normal);
+        let p = moved_point_at(
+            proposal,
+            at + k * PROPOSED_POINT_SIZE,
+            a,
+            b,
+            margins,
+            normal,
+        );
         if stays(step_time, distance, p) {
-            store_point(words, to + count * 18, p);
+            store_point(words, to + count * POINT_SIZE, p);
             count += 1;
         }
         k += 1;
@@ -193,10 +206,10 @@ fn store_left(
     words: &mut [u32],
     to: usize,
 ) -> usize
-    requires { ⌜ (n ≤ 32) × (at + 384 ≤ length (now proposal)) × (to + 72 ≤ length (now words)) ⌝ }
+    requires { ⌜ (n ≤ proposedPoints) × (at + proposedPointsSize ≤ length (now proposal)) × (to + pointsSize ≤ length (now words)) ⌝ }
     ensures { λ r. ⌜ PointsStored (pruned normal (staying «step_time» (f .«effective_speculative») (map (movedPoint (plainSide a) (plainSide b) (f .margins) normal) (proposedPointsAt (now (proposal .entry)) at n)))) to (now (words .entry)) (now (words .exit)) r ⌝ }
 {
-    if n <= 4 {
+    if n <= STORED_POINTS {
         return store_few(proposal, at, n, normal, step_time, a, b, f, words, to);
     }
     let left = kept_points(proposal, at, n, normal, step_time, a, b, f);
@@ -206,7 +219,7 @@ fn store_left(
 }
 
 // The number of points, and what they share.
-fn surface_words(count: u32, normal: Vec3, f: Surface) -> [u32; 9]
+fn surface_words(count: u32, normal: Vec3, f: Surface) -> [u32; MANIFOLD_POINTS]
     ensures { λ r. ⌜ r ≡ count ∷ vec3Words normal ++ (floatWord (f .friction) ∷ floatWord (f .restitution) ∷ []) ++ vec3Words zero3 ⌝ }
 {
     [
@@ -233,17 +246,32 @@ fn store_filtered(
     words: &mut [u32],
     to: usize,
 ) -> usize
-    requires { ⌜ (at + manifoldSize ≤ length (now proposal)) × (wordAt (now proposal) at ≤ 32) × (to + 81 ≤ length (now words)) ⌝ }
+    requires { ⌜ (at + proposedManifoldSize ≤ length (now proposal)) × (wordAt (now proposal) at ≤ proposedPoints) × (to + manifoldSize ≤ length (now words)) ⌝ }
     ensures { λ r. ⌜ ManifoldStored (filtered «step_time» (plainSide a) (plainSide b) (plainSurface f) (proposedManifoldAt (now (proposal .entry)) at)) to (now (words .entry)) (now (words .exit)) r ⌝ }
 {
     let n = load_word(proposal, at) as usize;
-    let normal = load_vec3(proposal, at + NORMAL_PLACE);
-    let from = at + POINTS_PLACE;
-    let count = store_left(proposal, from, n, normal, step_time, a, b, f, words, to + 9);
+    let normal = load_vec3(proposal, at + PROPOSED_MANIFOLD_NORMAL);
+    let from = at + PROPOSED_MANIFOLD_POINTS;
+    let count = store_left(
+        proposal,
+        from,
+        n,
+        normal,
+        step_time,
+        a,
+        b,
+        f,
+        words,
+        to + MANIFOLD_POINTS,
+    );
     if count == 0 {
         return 0;
     }
-    store_zeros(words, to + 9 + count * 18, 72 - count * 18);
+    store_zeros(
+        words,
+        to + MANIFOLD_POINTS + count * POINT_SIZE,
+        POINTS_SIZE - count * POINT_SIZE,
+    );
     let shared = surface_words(count as u32, normal, f);
     store_words(words, to, &shared);
     count
@@ -259,15 +287,24 @@ fn store_new(
     words: &mut [u32],
     to: usize,
 ) -> usize
-    requires { ⌜ (length (now proposal) ≡ proposalSize) × Proposed (now proposal) 0 × (to + 486 ≤ length (now words)) ⌝ }
+    requires { ⌜ (length (now proposal) ≡ proposalSize) × Proposed (now proposal) 0 × (to + allManifoldsSize ≤ length (now words)) ⌝ }
     ensures { λ r. ⌜ ManifoldsStored (withoutEmpty (map (filtered «step_time» (plainSide a) (plainSide b) (plainSurface f)) (proposalAt (now (proposal .entry)) 0))) to (now (words .entry)) (now (words .exit)) r ⌝ }
 {
-    let n = load_word(proposal, COUNT_PLACE) as usize;
+    let n = load_word(proposal, PROPOSAL_COUNT) as usize;
     let mut count: usize = 0;
     let mut k = 0;
     while k < n {
-        let at = MANIFOLDS_PLACE + k * MANIFOLD_SIZE;
-        let left = store_filtered(proposal, at, step_time, a, b, f, words, to + count * 81);
+        let at = PROPOSAL_MANIFOLDS + k * PROPOSED_MANIFOLD_SIZE;
+        let left = store_filtered(
+            proposal,
+            at,
+            step_time,
+            a,
+            b,
+            f,
+            words,
+            to + count * MANIFOLD_SIZE,
+        );
         if left != 0 {
             count += 1;
         }
@@ -287,10 +324,10 @@ pub fn store_remaining(
     words: &mut [u32],
     to: usize,
 ) -> usize
-    requires { ⌜ (length (now proposal) ≡ proposalSize) × Proposed (now proposal) 0 × (to + 486 ≤ length (now words)) ⌝ }
+    requires { ⌜ (length (now proposal) ≡ proposalSize) × Proposed (now proposal) 0 × (to + allManifoldsSize ≤ length (now words)) ⌝ }
     ensures { λ r. ⌜ ManifoldsStored (remaining «step_time» (plainSide a) (plainSide b) (plainSurface f) modify (hookAt (now (proposal .entry)) 0) (proposalAt (now (proposal .entry)) 0)) to (now (words .entry)) (now (words .exit)) r ⌝ }
 {
-    let answer = load_hook(proposal, HOOK_PLACE);
+    let answer = load_hook(proposal, PROPOSAL_HOOK);
     if modify && !answer {
         return 0;
     }

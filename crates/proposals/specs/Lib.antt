@@ -1,5 +1,4 @@
-pub mod Layout
 pub mod Recorded
 pub mod Views
 pub mod Range
-pub mod Loaded
+pub mod LoadedLaws

@@ -7,13 +7,13 @@ use lib.Dec.{ltb, leb}
 use Rattle.rules.specs.Limits.{proposedPoints, pairManifolds}
 use Rattle.rules.specs.Numbers.{every}
 use Rattle.words.specs.Words.{wordAt}
-use Rattle.proposals.specs.Layout as place
+use Rattle.layout.specs.Proposal.{proposalCount, proposalManifolds, proposedManifoldSize}
 
 -- at most 6 manifolds, and at most 32 points in each that is counted
 unfoldable pub proposalFits : List ℕ → ℕ → Bool
 proposalFits xs at =
-    leb (wordAt xs (at + place.countPlace)) pairManifolds
-    && every (λ k. leb (wordAt xs (at + place.manifoldsPlace + k * place.manifoldSize)) proposedPoints) (wordAt xs (at + place.countPlace))
+    leb (wordAt xs (at + proposalCount)) pairManifolds
+    && every (λ k. leb (wordAt xs (at + proposalManifolds + k * proposedManifoldSize)) proposedPoints) (wordAt xs (at + proposalCount))
 
 -- the hook's answer is a mark
 unfoldable pub hookFits : List ℕ → ℕ → Bool
@@ -21,5 +21,5 @@ hookFits xs at = ltb (wordAt xs at) 2
 
 -- what `proposalFits` says, count by count
 pub record Proposed (xs : List ℕ) (at : ℕ) : Type 0 where
-  pub manifolds : wordAt xs (at + place.countPlace) ≤ pairManifolds
-  pub points : (k : ℕ) → k < wordAt xs (at + place.countPlace) → wordAt xs (at + place.manifoldsPlace + k * place.manifoldSize) ≤ proposedPoints
+  pub manifolds : wordAt xs (at + proposalCount) ≤ pairManifolds
+  pub points : (k : ℕ) → k < wordAt xs (at + proposalCount) → wordAt xs (at + proposalManifolds + k * proposedManifoldSize) ≤ proposedPoints

@@ -6,28 +6,28 @@ use lib.Dec.{eqb}
 use Rattle.rows.specs.Slots.{upto}
 use Rattle.rules.specs.Inputs.{ProposedPoint, ProposedManifold}
 use Rattle.words.specs.Words.{wordAt, floatAt, vec3At}
-use Rattle.proposals.specs.Layout as place
+use Rattle.layout.specs.Proposal.{proposalCount, proposalManifolds, proposedManifoldNormal, proposedManifoldPoints, proposedManifoldSize, proposedPointAnchor2, proposedPointFeature2, proposedPointFeatures, proposedPointPenetration, proposedPointPosition, proposedPointSize}
 
 unfoldable pub proposedPointAt : List ℕ → ℕ → ProposedPoint
 proposedPointAt xs at =
     record {
       anchor1 = vec3At xs at;
-      anchor2 = vec3At xs (at + 3);
-      point = vec3At xs (at + 6);
-      penetration = floatAt xs (at + place.penetrationPlace);
-      feature1 = wordAt xs (at + place.featuresPlace);
-      feature2 = wordAt xs (at + 11);
+      anchor2 = vec3At xs (at + proposedPointAnchor2);
+      point = vec3At xs (at + proposedPointPosition);
+      penetration = floatAt xs (at + proposedPointPenetration);
+      feature1 = wordAt xs (at + proposedPointFeatures);
+      feature2 = wordAt xs (at + proposedPointFeature2);
     }
 
 unfoldable pub proposedPointsAt : List ℕ → ℕ → ℕ → List ProposedPoint
-proposedPointsAt xs at count = map (λ k. proposedPointAt xs (at + k * place.pointSize)) (upto count)
+proposedPointsAt xs at count = map (λ k. proposedPointAt xs (at + k * proposedPointSize)) (upto count)
 
 unfoldable pub proposedManifoldAt : List ℕ → ℕ → ProposedManifold
-proposedManifoldAt xs at = record { normal = vec3At xs (at + place.normalPlace); points = proposedPointsAt xs (at + place.pointsPlace) (wordAt xs at) }
+proposedManifoldAt xs at = record { normal = vec3At xs (at + proposedManifoldNormal); points = proposedPointsAt xs (at + proposedManifoldPoints) (wordAt xs at) }
 
 -- the proposal that begins at that place
 unfoldable pub proposalAt : List ℕ → ℕ → List ProposedManifold
-proposalAt xs at = map (λ k. proposedManifoldAt xs (at + place.manifoldsPlace + k * place.manifoldSize)) (upto (wordAt xs (at + place.countPlace)))
+proposalAt xs at = map (λ k. proposedManifoldAt xs (at + proposalManifolds + k * proposedManifoldSize)) (upto (wordAt xs (at + proposalCount)))
 
 -- the hook says yes
 unfoldable pub hookAt : List ℕ → ℕ → Bool

@@ -2,16 +2,21 @@
 ghost use mathlib.Core.Path.{_≡_};
 ghost use Prim.Native.Nat.{_+_, _≤_, _<_};
 ghost use lib.ListN.{length};
-ghost use Rattle.proposals.specs.Layout.{pointSize, proposalSize};
+ghost use Rattle.layout.specs.Proposal.{proposalSize, proposedPointSize};
 ghost use Rattle.proposals.specs.Range.{proposalFits, hookFits};
 ghost use Rattle.proposals.specs.Recorded.{proposedPointAt, hookAt};
 ghost use Rattle.proposals.specs.Views.{proposedOf};
-use crate::layout::COUNT_PLACE;
-use crate::layout::MANIFOLD_SIZE;
-use crate::layout::MANIFOLDS_PLACE;
 use contact_types::feature_id::PackedFeatureId;
-use contact_types::limits::MANIFOLDS;
-use contact_types::limits::PROPOSED_POINTS;
+use layout::limits::MANIFOLDS;
+use layout::limits::PROPOSED_POINTS;
+use layout::proposal::PROPOSAL_COUNT;
+use layout::proposal::PROPOSAL_MANIFOLDS;
+use layout::proposal::PROPOSED_MANIFOLD_SIZE;
+use layout::proposal::PROPOSED_POINT_ANCHOR2;
+use layout::proposal::PROPOSED_POINT_FEATURE2;
+use layout::proposal::PROPOSED_POINT_FEATURES;
+use layout::proposal::PROPOSED_POINT_PENETRATION;
+use layout::proposal::PROPOSED_POINT_POSITION;
 use math::vec::Vec3;
 use words::row::load_float;
 use words::row::load_word;
@@ -28,16 +33,16 @@ pub struct ProposedPoint {
 }
 
 pub fn load_proposed_point(words: &[u32], at: usize) -> ProposedPoint
-    requires { ⌜ at + pointSize ≤ length (now words) ⌝ }
+    requires { ⌜ at + proposedPointSize ≤ length (now words) ⌝ }
     ensures { λ r. ⌜ proposedOf r ≡ proposedPointAt (now (words .entry)) at ⌝ }
 {
     ProposedPoint {
         anchor1: load_vec3(words, at),
-        anchor2: load_vec3(words, at + 3),
-        point: load_vec3(words, at + 6),
-        penetration: load_float(words, at + 9),
-        feature_id1: PackedFeatureId(load_word(words, at + 10)),
-        feature_id2: PackedFeatureId(load_word(words, at + 11)),
+        anchor2: load_vec3(words, at + PROPOSED_POINT_ANCHOR2),
+        point: load_vec3(words, at + PROPOSED_POINT_POSITION),
+        penetration: load_float(words, at + PROPOSED_POINT_PENETRATION),
+        feature_id1: PackedFeatureId(load_word(words, at + PROPOSED_POINT_FEATURES)),
+        feature_id2: PackedFeatureId(load_word(words, at + PROPOSED_POINT_FEATURE2)),
     }
 }
 
@@ -62,13 +67,16 @@ pub fn proposal_fits(words: &[u32], at: usize) -> bool
     requires { ⌜ at + proposalSize ≤ length (now words) ⌝ }
     ensures { λ r. ⌜ r ≡ proposalFits (now (words .entry)) at ⌝ }
 {
-    let count = load_word(words, at + COUNT_PLACE) as usize;
+    let count = load_word(words, at + PROPOSAL_COUNT) as usize;
     if MANIFOLDS < count {
         return false;
     }
     let mut k = 0;
     while k < count {
-        let points = load_word(words, at + MANIFOLDS_PLACE + k * MANIFOLD_SIZE) as usize;
+        let points = load_word(
+            words,
+            at + PROPOSAL_MANIFOLDS + k * PROPOSED_MANIFOLD_SIZE,
+        ) as usize;
         if PROPOSED_POINTS < points {
             return false;
         }

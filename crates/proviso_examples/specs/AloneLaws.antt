@@ -9,7 +9,7 @@ use Rattle.rules.specs.Inputs.{Inputs}
 use Rattle.rules.specs.Records.{Pair}
 use Rattle.rules.specs.Runs.{Entry, addition, stepping, impulses, plainCall, ProvisosAt, Provisos}
 use Rattle.contact_runs.specs.Claim.{plainOf}
-use Rattle.contact_runs.specs.Demand.{demand3}
+use Rattle.contact_runs.specs.DemandLaws.{demand3}
 use Rattle.proviso_examples.specs.Alone.{Proviso, Both, AloneAt, Alone, ReplayUnder}
 
 at-provisos : (e : Entry) (g : Graph) → AloneAt Both e g → ProvisosAt e g

@@ -6,7 +6,8 @@ use mathlib.Core.List.{List, [], _∷_, map}
 use mathlib.Core.Option.{none}
 use Rattle.rules.specs.Graph.{Graph, emptyGraph, newId, plainAdd, pairIndex}
 use Rattle.rules.specs.Runs as rules
-use Rattle.rules.specs.Runs.{unlessRefused, plainCall, plainRun, plainGraph, Held, manifoldsOf, replayOne, replay, replayAnswer, replayAnswers, heldIn}
+use Rattle.rules.specs.Runs.{unlessRefused, plainCall, plainRun, plainGraph, Held, manifoldsOf, replayOne, replay, heldIn}
+use Rattle.rule_laws.specs.Replayed.{replayAnswer, replayAnswers}
 use Rattle.rules.specs.Status.{visitAt, visitFound, visit, visitAll, bitOf, standingBits, plainStep}
 use Rattle.manifold_records.specs.Written.{zeros}
 use Rattle.math.specs.Fit.{FitFloat}
@@ -16,7 +17,7 @@ use Rattle.contact_graph.specs.declared.lay_out.LayOutAnswer.the-variants.{Done
 use Rattle.step.specs.Step.{Given, inputs}
 use Rattle.contact_runs.specs.Claim.{plainOf, replayTold}
 use Rattle.contact_runs.specs.Runs.{Entry, addition, stepping, Outcomes, Promised, Run, AllFit}
-use Rattle.contact_runs.specs.Demand.{laid-checked, laid-plain}
+use Rattle.contact_runs.specs.DemandLaws.{laid-checked, laid-plain}
 use Rattle.contact_runs.specs.OnlyLaws.{run-of}
 use Rattle.contact_runs.specs.Refusals.{allPairs, somePair, plainAddRefusal, plainHooksFit, plainProposalsFit, plainSharesFit, plainStepRefusal}
 use Rattle.contact_runs.specs.ReplayLaws.{run-replays}

@@ -2,6 +2,6 @@ pub mod Alone
 pub mod AloneLaws
 pub mod Calls
 pub mod CallLaws
-pub mod Unnamed
-pub mod Sensing
-pub mod ExampleProvisos
+pub mod UnnamedLaws
+pub mod SensingLaws
+pub mod ExampleProvisoLaws

@@ -1,5 +1,5 @@
 -- The answer to a text: the specification, 'Prune listing' and 'Matching and pruning'. Definitions only.
-use Prim.Native.Nat.{ℕ, _≤_, _<_}
+use Prim.Native.Nat.{ℕ, _+_, _≤_, _<_}
 use mathlib.Core.Path.{_≡_}
 use mathlib.Core.Bool.{cond}
 use mathlib.Core.List.{List, [], _∷_}
@@ -9,20 +9,22 @@ use lib.ListN.{length, getD, take}
 use Rattle.rows.specs.Rows.{each}
 use Rattle.words.specs.Words.{floatAt, vec3At}
 use Rattle.rules.specs.Pruning.{PrunePoint, kept}
+use Rattle.layout.specs.Prune.{prunePointAnchor1, prunePointPenetration}
+use Rattle.rules.specs.Limits.{proposedPoints, storedPoints}
 use Rattle.contact_types.specs.Prune.{Answer, refused, keeps}
 use Rattle.prune_listing.specs.Listing.{Listing, listing}
 use Rattle.prune_listing.specs.Lines.{keptLine, refusedLine, Written}
 
 -- a point of a listing: anchor 1, then penetration
 abbrev pub pointOf : List ℕ → PrunePoint
-pointOf words = record { anchor1 = vec3At words 0; penetration = floatAt words 3 }
+pointOf words = record { anchor1 = vec3At words prunePointAnchor1; penetration = floatAt words prunePointPenetration }
 
 -- refusal 1 if the text is unreadable, 8 if it has too few points, 6 if it has too many
 unfoldable pub listingAnswer : Option Listing → Answer (List ℕ)
 listingAnswer none = refused 1
 listingAnswer (some l) =
     let count : ℕ = length (l .points) in
-    cond (ltb count 5) (refused 8) (cond (ltb 32 count) (refused 6) (keeps (kept (vec3At (l .normal) 0) count (λ k. pointOf (getD (l .points) k [])))))
+    cond (ltb count (storedPoints + 1)) (refused 8) (cond (ltb proposedPoints count) (refused 6) (keeps (kept (vec3At (l .normal) 0) count (λ k. pointOf (getD (l .points) k [])))))
 
 -- R and the number, or a line K for each kept number
 abbrev pub linesOf : Answer (List ℕ) → List ℕ

@@ -2,4 +2,4 @@ pub mod Answer
 pub mod WriteLaws
 pub mod AnswerLaws
 pub mod CallLaws
-pub mod Cases
+pub mod CaseLaws

@@ -8,6 +8,7 @@ ghost use Rattle.prune_answer.specs.Answer.{Below, Answered};
 use contact_types::prune::PruneAnswer;
 use contact_types::prune::prune;
 use contact_types::pruning::KeptPoints;
+use layout::prune::PRUNE_POINTS_LENGTH;
 use math::bits::float_of;
 use math::vec::Vec3;
 use prune_listing::reader::Reading;
@@ -39,7 +40,7 @@ fn write_all_kept(out: &mut [u8], kept: KeptPoints) -> usize
 pub fn answer(text: &[u8], out: &mut [u8; 24]) -> usize
     ensures { λ r. ⌜ Answered (now (text .entry)) (now (out .entry)) (now (out .exit)) r ⌝ }
 {
-    let mut points = [0u32; 128];
+    let mut points = [0u32; PRUNE_POINTS_LENGTH];
     let Reading::Read(header) = read_listing(text, &mut points) else {
         return write_refused(out, 0, 1);
     };

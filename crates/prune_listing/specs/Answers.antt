@@ -6,6 +6,8 @@ use mathlib.Core.List.{List, [], _∷_}
 use mathlib.Core.Option.{Option, none, some}
 use lib.ListN.{length, getD, take}
 use Rattle.rows.specs.Rows.{put, each}
+use Rattle.layout.specs.Prune.{prunePointSize}
+use Rattle.rules.specs.Limits.{proposedPoints}
 use Rattle.prune_listing.specs.declared.words.Word.{Word}
 use Rattle.prune_listing.specs.declared.words.Word.the-variants.{Is, NoWord}
 use Rattle.prune_listing.specs.declared.lines.VectorWords.{VectorWords}
@@ -24,7 +26,7 @@ use Rattle.prune_listing.specs.Listing.{Taken, hexDigit, Listing, listin
 
 -- of the points, as many as there is room for
 abbrev pub room : ℕ
-room = 32
+room = proposedPoints
 
 -- the answer of a text that reads to l, or to nothing
 abbrev pub readingOf : Option Listing → Reading
@@ -88,4 +90,4 @@ countFrom n (some points) = Points (n + length points)
 -- the points stored from point k on, as many as there is room for
 abbrev pub storedFrom : List ℕ → ℕ → Option (List (List ℕ)) → List ℕ
 storedFrom row k none = row
-storedFrom row k (some points) = put row (4 * k) (each (λ words. words) (take (room - k) points))
+storedFrom row k (some points) = put row (prunePointSize * k) (each (λ words. words) (take (room - k) points))

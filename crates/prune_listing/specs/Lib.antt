@@ -7,4 +7,4 @@ pub mod ListingLaws
 pub mod Lines
 pub mod LinesLaws
 pub mod ShapeLaws
-pub mod Cases
+pub mod CaseLaws

@@ -4,11 +4,13 @@ use crate::lines::PointWords;
 use crate::lines::VectorRead;
 use crate::lines::read_normal;
 use crate::lines::read_point;
+use layout::prune::PRUNE_POINTS_LENGTH;
 ghost use mathlib.Core.Path.{_≡_};
 ghost use mathlib.Core.Option.{IsSome};
 ghost use Prim.Native.Nat.{_+_, _*_, _≤_};
 ghost use lib.ListN.{length, drop};
 ghost use Rattle.rows.specs.Rows.{put};
+ghost use Rattle.layout.specs.Prune.{prunePointSize, prunePointsLength};
 ghost use Rattle.prune_listing.specs.Listing.{allPoints};
 ghost use Rattle.prune_listing.specs.Answers.{ListingRead, pointWords, countFrom, storedFrom};
 
@@ -48,8 +50,8 @@ fn count_points(text: &[u8]) -> Count
 }
 
 // Four words from a place of the row.
-fn store_point(points: &mut [u32; 128], at: usize, p: PointWords)
-    requires { ⌜ at + 4 ≤ 128 ⌝ }
+fn store_point(points: &mut [u32; PRUNE_POINTS_LENGTH], at: usize, p: PointWords)
+    requires { ⌜ at + prunePointSize ≤ prunePointsLength ⌝ }
     ensures { λ _. ⌜ now (points .exit) ≡ put (now (points .entry)) at (pointWords p) ⌝ }
 {
     points[at] = p.x;
@@ -59,7 +61,7 @@ fn store_point(points: &mut [u32; 128], at: usize, p: PointWords)
 }
 
 // The points of a text whose lines were all read, as many as there is room for.
-fn store_points(text: &[u8], points: &mut [u32; 128])
+fn store_points(text: &[u8], points: &mut [u32; PRUNE_POINTS_LENGTH])
     requires { ⌜ (length (now text) ≤ 65536) × IsSome (allPoints (drop 29 (now text))) ⌝ }
     ensures { λ _. ⌜ now (points .exit) ≡ storedFrom (now (points .entry)) 0 (allPoints (drop 29 (now (text .entry)))) ⌝ }
 {
@@ -79,7 +81,7 @@ fn store_points(text: &[u8], points: &mut [u32; 128])
 }
 
 // Reads a listing. The row takes the first 32 points, four words each; it is left alone where the text is unreadable.
-pub fn read_listing(text: &[u8], points: &mut [u32; 128]) -> Reading
+pub fn read_listing(text: &[u8], points: &mut [u32; PRUNE_POINTS_LENGTH]) -> Reading
     ensures { λ r. ⌜ ListingRead (now (text .entry)) (now (points .entry)) (now (points .exit)) r ⌝ }
 {
     if text.len() > 65536 {

@@ -22,7 +22,7 @@ movedAnchor a anchor = anchor +v (a .offset -v a .worldCom)
 
 -- (v2 − v1 + ω2 cross anchor2 − ω1 cross anchor1) · normal, with the moved anchors and the velocities as they are
 unfoldable pub normalSpeedAt : Side → Side → Vec3 → Vec3 → Vec3 → Float
-normalSpeedAt a b anchor1 anchor2 normal = dot (b .velocity -v a .velocity +v cross (b .spin) anchor2 -v cross (a .spin) anchor1) normal
+normalSpeedAt a b anchor1 anchor2 normal = dot (b .linearVelocity -v a .linearVelocity +v cross (b .angularVelocity) anchor2 -v cross (a .angularVelocity) anchor1) normal
 
 -- penetration gains the margins' sum and becomes the base; the rest as in `ContactPoint::new`
 unfoldable pub movedPoint : Side → Side → Float → Vec3 → ProposedPoint → Point

@@ -36,14 +36,13 @@ pub record Collider : Type 0 where
   pub sensor : Bool
 
 pub record Body : Type 0 where
-  -- the body is static
-  pub fixed : Bool
+  pub isStatic : Bool
   pub pose : Pose
-  -- the centre of mass, before the rotation
-  pub centre : Vec3
-  pub velocity : Vec3
-  -- ω, the angular velocity
-  pub spin : Vec3
+  -- before the rotation
+  pub centerOfMass : Vec3
+  pub linearVelocity : Vec3
+  -- ω
+  pub angularVelocity : Vec3
   pub friction : Option Coefficient
   pub margin : Option Float
   pub speculativeMaximum : Option Float

@@ -23,3 +23,7 @@ bodies = 128
 -- contacts of a graph
 abbrev pub mostContacts : ℕ
 mostContacts = 256
+
+-- workers of a step
+abbrev pub mostWorkers : ℕ
+mostWorkers = 8

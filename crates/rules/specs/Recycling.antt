@@ -33,7 +33,7 @@ squared x = x ⊗ x
 
 -- the sweep radius, 0 for a static body
 unfoldable pub radius : Side → Float
-radius a = cond (a .fixed) zeroF (a .sweepRadius)
+radius a = cond (a .isStatic) zeroF (a .sweepRadius)
 
 -- the minimum of each body's squared dot of rotation and cached rotation: a squared cosine of half the angle turned, so the smaller the more a body has turned
 unfoldable pub leastSquaredDot : Side → Side → Cache → Float

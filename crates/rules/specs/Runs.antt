@@ -1,7 +1,6 @@
 -- The plain run of a list of calls, the replay of its constraint changes, and what the two provisos of the replay say. Definitions only.
 -- A call's arguments are words; here they are read already, and `refusal` gives the table's number for them on a graph, 0 for none.
-use Prim.Native.Nat.{ℕ, zero, suc, _<_}
-use mathlib.Core.Path.{_≡_}
+use Prim.Native.Nat.{ℕ, zero, suc}
 use mathlib.Core.Bool.{Bool, true, false, cond, _&&_}
 use mathlib.Core.List.{List, [], _∷_, List·Memᴰ}
 use mathlib.Core.Option.{Option, none, some}
@@ -11,7 +10,7 @@ use lib.IntN.{ℤ, pos, _+ℤ_}
 use Rattle.rules.specs.Inputs.{Inputs}
 use Rattle.rules.specs.Records.{Pair}
 use Rattle.rules.specs.Update.{updated}
-use Rattle.rules.specs.Graph.{Graph, emptyGraph, Addition, plainAdd, newId}
+use Rattle.rules.specs.Graph.{Graph, Addition, plainAdd, newId}
 use Rattle.rules.specs.Solver.{Write, plainWrites}
 use Rattle.rules.specs.Status.{Change, start, stop, count, StepResult, plainStep}
 
@@ -83,19 +82,6 @@ unfolding replayOne
 replay ps [] h = h
 replay ps (c ∷ cs) h = replay ps cs (replayOne ps c h)
 
--- of the answers of a run: the number of manifolds that a started contact then has is read in the graph that its step left
-unfoldable pub replayAnswer : Answer → Held → Held
-unfolding replay
-replayAnswer (refused n) h = h
-replayAnswer (added id) h = h
-replayAnswer (stepped s) h = replay (s .graph .pairs) (s .changes) h
-replayAnswer silent h = h
-
-unfoldable pub replayAnswers : List After → Held → Held
-unfolding replayAnswer
-replayAnswers [] h = h
-replayAnswers (a ∷ as') h = replayAnswers as' (replayAnswer (a .answer) h)
-
 -- ---- the two provisos, of every step of the run that is not refused
 
 abbrev pub named : Option ℕ → Bool
@@ -129,20 +115,3 @@ unfoldable pub Provisos : List Entry → Graph → Type 0
 unfolding ProvisosAt plainCall
 Provisos [] g = Unit {0}
 Provisos (e ∷ es) g = ProvisosAt e g × Provisos es (plainCall e g .graph)
-
--- an addition that is not refused finds room, at an entry and along a run: so the table's number 5 has it
-unfoldable pub RoomAt : Entry → Graph → Type 0
-RoomAt (addition r a) g = T (eqb (r g) 0) → length (g .pairs) < g .capacity
-RoomAt (stepping r i) g = Unit {0}
-RoomAt (impulses ws) g = Unit {0}
-
-unfoldable pub Room : List Entry → Graph → Type 0
-unfolding RoomAt plainCall
-Room [] g = Unit {0}
-Room (e ∷ es) g = RoomAt e g × Room es (plainCall e g .graph)
-
--- the claim: what the replay holds is what the graph holds
-abbrev pub AnswersReplayHolds : Type 0
-AnswersReplayHolds =
-    (n : ℕ) (es : List Entry) → Provisos es (emptyGraph n) → Room es (emptyGraph n) →
-    (id : ℕ) → replayAnswers (plainRun es (emptyGraph n)) (λ _. none) id ≡ heldIn (plainGraph es (emptyGraph n) .pairs) id

@@ -35,15 +35,15 @@ interact c1 c2 = meet (c1 .memberships) (c2 .filters) && meet (c2 .memberships) 
 -- ---- rule 3: what is read of a side's body
 pub record Side : Type 0 where
   -- the body is there
-  pub here : Bool
-  pub fixed : Bool
+  pub present : Bool
+  pub isStatic : Bool
   -- collider position − body position
   pub offset : Vec3
   -- rotation times centre of mass
   pub worldCom : Vec3
   pub pose : Pose
-  pub velocity : Vec3
-  pub spin : Vec3
+  pub linearVelocity : Vec3
+  pub angularVelocity : Vec3
   pub friction : Option Coefficient
   pub margin : Option Float
   pub speculativeMaximum : Option Float
@@ -53,13 +53,13 @@ pub record Side : Type 0 where
 unfoldable pub sideOf : Collider → Option Body → Side
 sideOf c none =
     record {
-      here = false;
-      fixed = false;
+      present = false;
+      isStatic = false;
       offset = zero3;
       worldCom = zero3;
       pose = record { position = zero3; rotation = identity };
-      velocity = zero3;
-      spin = zero3;
+      linearVelocity = zero3;
+      angularVelocity = zero3;
       friction = none;
       margin = none;
       speculativeMaximum = none;
@@ -67,13 +67,13 @@ sideOf c none =
     }
 sideOf c (some b) =
     record {
-      here = true;
-      fixed = b .fixed;
+      present = true;
+      isStatic = b .isStatic;
       offset = c .position -v b .pose .position;
-      worldCom = rotate (b .pose .rotation) (b .centre);
+      worldCom = rotate (b .pose .rotation) (b .centerOfMass);
       pose = b .pose;
-      velocity = b .velocity;
-      spin = b .spin;
+      linearVelocity = b .linearVelocity;
+      angularVelocity = b .angularVelocity;
       friction = b .friction;
       margin = b .margin;
       speculativeMaximum = b .speculativeMaximum;

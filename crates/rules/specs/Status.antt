@@ -95,30 +95,88 @@ removed s i p es cs = record {
   changes = s .changes ++ cs;
 }
 
--- The first case that holds is taken.
+-- ---- one visit: the first of five cases that holds is taken
+pub data Verdict : Type 0 where
+  -- Disjoint
+  vanishes : Verdict
+  -- Started
+  starts : Verdict
+  -- Stopped
+  stops : Verdict
+  -- Started generating, touching
+  generates : Verdict
+  -- Touching, generating, count change not 0
+  recounts : Verdict
+  -- no case holds
+  persists : Verdict
+
+abbrev pub pick : Bool → Bool → Bool → Bool → Bool → Verdict
+pick true b c d e = vanishes
+pick false true c d e = starts
+pick false false true d e = stops
+pick false false false true e = generates
+pick false false false false true = recounts
+pick false false false false false = persists
+
+abbrev pub verdict : Pair → Verdict
+verdict p =
+    pick (p .flags .disjointAabb) (p .flags .startedTouching) (p .flags .stoppedTouching) (p .flags .touching && p .flags .startedGenerating)
+    (p .flags .touching && (p .flags .generateConstraints && nonZero (p .countChange)))
+
+-- Disjoint: an end event if the edge has TOUCHING and CONTACT_EVENTS. Started: a start event if the edge has CONTACT_EVENTS. Stopped: an end event if CONTACT_EVENTS
+abbrev pub eventsFor : Verdict → Pair → List Event
+eventsFor vanishes p = eventIf (p .edge .touching && p .edge .contactEvents) (ended (p .names))
+eventsFor starts p = eventIf (p .edge .contactEvents) (started (p .names))
+eventsFor stops p = eventIf (p .edge .contactEvents) (ended (p .names))
+eventsFor generates p = []
+eventsFor recounts p = []
+eventsFor persists p = []
+
+-- Disjoint: a stop if generating with both bodies named. Started: a start change if generating. Stopped: a stop as above. Started generating: a start change.
+-- Count change not 0: it is written if both bodies are named
+abbrev pub changesFor : Verdict → Pair → List Change
+changesFor vanishes p = stopIf (p .flags .generateConstraints) (p .names)
+changesFor starts p = cond (p .flags .generateConstraints) (start (p .names .id) ∷ []) []
+changesFor stops p = stopIf (p .flags .generateConstraints) (p .names)
+changesFor generates p = start (p .names .id) ∷ []
+changesFor recounts p = countOf (p .names) (p .countChange)
+changesFor persists p = []
+
+-- Started: edge TOUCHING set, both STARTED marks cleared
+abbrev pub startSettled : Pair → Pair
+startSettled p = withStatus p true (withStatusMarks (p .flags) false (p .flags .stoppedTouching) false) (p .countChange)
+
+-- Stopped: edge TOUCHING and STOPPED_TOUCHING cleared
+abbrev pub stopSettled : Pair → Pair
+stopSettled p = withStatus p false (withStatusMarks (p .flags) (p .flags .startedTouching) false (p .flags .startedGenerating)) (p .countChange)
+
+-- Started generating: mark cleared
+abbrev pub generatingSettled : Pair → Pair
+generatingSettled p = withStatus p (p .edge .touching) (withStatusMarks (p .flags) (p .flags .startedTouching) (p .flags .stoppedTouching) false) (p .countChange)
+
+-- Count change not 0: it becomes 0
+abbrev pub countSettled : Pair → Pair
+countSettled p = withStatus p (p .edge .touching) (p .flags) (pos 0)
+
+-- what becomes of the pair: a disjoint one is removed
+abbrev pub next : Verdict → Pair → Option Pair
+next vanishes p = none
+next starts p = some (startSettled p)
+next stops p = some (stopSettled p)
+next generates p = some (generatingSettled p)
+next recounts p = some (countSettled p)
+next persists p = some p
+
+abbrev pub visitAs : Pass → ℕ → Pair → Verdict → Pass
+visitAs s i p vanishes = removed s i p (eventsFor vanishes p) (changesFor vanishes p)
+visitAs s i p starts = written s i (startSettled p) (eventsFor starts p) (changesFor starts p)
+visitAs s i p stops = written s i (stopSettled p) (eventsFor stops p) (changesFor stops p)
+visitAs s i p generates = written s i (generatingSettled p) (eventsFor generates p) (changesFor generates p)
+visitAs s i p recounts = written s i (countSettled p) (eventsFor recounts p) (changesFor recounts p)
+visitAs s i p persists = s
+
 unfoldable pub visitAt : Pass → ℕ → Pair → Pass
-visitAt s i p =
-    let f = p .flags in
-    let n = p .names in
-    -- Disjoint: an end event if the edge has TOUCHING and CONTACT_EVENTS; a stop if generating with both bodies named; removal
-    cond (f .disjointAabb)
-    (removed s i p (eventIf (p .edge .touching && p .edge .contactEvents) (ended n)) (stopIf (f .generateConstraints) n))
-    -- Started: a start event if the edge has CONTACT_EVENTS; edge TOUCHING set, both STARTED marks cleared; a start change if generating
-    (cond (f .startedTouching)
-    (written s i (withStatus p true (withStatusMarks f false (f .stoppedTouching) false) (p .countChange))
-    (eventIf (p .edge .contactEvents) (started n)) (cond (f .generateConstraints) (start (n .id) ∷ []) []))
-    -- Stopped: an end event if CONTACT_EVENTS; edge TOUCHING and STOPPED_TOUCHING cleared; a stop as above
-    (cond (f .stoppedTouching)
-    (written s i (withStatus p false (withStatusMarks f (f .startedTouching) false (f .startedGenerating)) (p .countChange))
-    (eventIf (p .edge .contactEvents) (ended n)) (stopIf (f .generateConstraints) n))
-    -- Started generating, touching: mark cleared; a start change
-    (cond (f .touching && f .startedGenerating)
-    (written s i (withStatus p (p .edge .touching) (withStatusMarks f (f .startedTouching) (f .stoppedTouching) false) (p .countChange)) [] (start (n .id) ∷ []))
-    -- Touching, generating, count change not 0: it becomes 0 and is written if both bodies are named
-    (cond (f .touching && (f .generateConstraints && nonZero (p .countChange)))
-    (written s i (withStatus p (p .edge .touching) f (pos 0)) [] (countOf n (p .countChange)))
-    -- no case holds
-    s))))
+visitAt s i p = visitAs s i p (verdict p)
 
 unfoldable pub visitFound : Pass → Option ℕ → List Pair → Pass
 visitFound s none ps = s

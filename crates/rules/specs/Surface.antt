@@ -48,7 +48,7 @@ marginOf c a = orElse (firstGiven (c .margin) (a .margin)) zeroF
 -- ---- rule 8
 -- each velocity whose maximum is below f32's largest is clamped to maximum × (1 / step time)
 unfoldable pub clampedVelocity : Settings → Side → Float → Vec3
-clampedVelocity s a m = cond (lt m largest) (clampLength (a .velocity) (m ⊗ (one ⊘ s .stepTime))) (a .velocity)
+clampedVelocity s a m = cond (lt m largest) (clampLength (a .linearVelocity) (m ⊗ (one ⊘ s .stepTime))) (a .linearVelocity)
 
 -- the length of their difference × step time: how far the bodies are expected to move relative to each other
 unfoldable pub sweptDistance : Settings → Side → Side → Float → Float → Float

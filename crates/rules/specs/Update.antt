@@ -90,7 +90,7 @@ recycledPair a b k p =
     record {
       names = p .names;
       edge = p .edge;
-      flags = staticFlags (p .flags) (a .fixed) (b .fixed);
+      flags = staticFlags (p .flags) (a .isStatic) (b .isStatic);
       manifolds = map (recycledManifold a b k) (p .manifolds);
       countChange = p .countChange;
       speculative = zeroF;
@@ -108,7 +108,7 @@ cacheOf a b =
     }
 
 unfoldable pub enabled : Collider → Collider → Side → Side → Bool
-enabled c1 c2 a b = (a .here && b .here) && (not (c1 .sensor) && not (c2 .sensor))
+enabled c1 c2 a b = (a .present && b .present) && (not (c1 .sensor) && not (c2 .sensor))
 
 -- rule 10: a marked pair whose hook says no loses all manifolds
 unfoldable pub hooked : Bool → Bool → List Manifold → List Manifold
@@ -162,7 +162,7 @@ renewed s answer proposal c1 c2 a b p =
     let q : Pair = record {
       names = p .names;
       edge = p .edge;
-      flags = renewedFlags (p .flags) (a .fixed) (b .fixed) on touching;
+      flags = renewedFlags (p .flags) (a .isStatic) (b .isStatic) on touching;
       manifolds = matched s (p .manifolds) news;
       countChange = change;
       speculative = zeroF;

@@ -1,4 +1,3 @@
-pub mod Layout
 pub mod Shares
-pub mod Counting
+pub mod CountingLaws
 pub mod SharesLaws

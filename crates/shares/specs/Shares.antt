@@ -7,14 +7,15 @@ use Rattle.rules.specs.Numbers.{every}
 use Rattle.words.specs.Words.{wordAt}
 use Rattle.contact_range.specs.Range.{stands}
 use Rattle.contact_range.specs.Recorded.{capacityOf, listedCount, listedAt}
-use Rattle.shares.specs.Layout as place
+use Rattle.rules.specs.Limits.{mostWorkers}
+use Rattle.layout.specs.Shares.{sharesCounts, sharesEntries}
 
 abbrev pub workersOf : List ℕ → ℕ
 workersOf xs = wordAt xs 0
 
 -- how many contacts a worker has
 abbrev pub countOf : List ℕ → ℕ → ℕ
-countOf xs w = wordAt xs (place.countsPlace + w)
+countOf xs w = wordAt xs (sharesCounts + w)
 
 -- the contacts of the workers before it
 unfoldable pub startOf : List ℕ → ℕ → ℕ
@@ -27,7 +28,7 @@ totalOf xs = startOf xs (workersOf xs)
 
 -- worker by worker
 abbrev pub entryAt : List ℕ → ℕ → ℕ
-entryAt xs j = wordAt xs (place.entriesPlace + j)
+entryAt xs j = wordAt xs (sharesEntries + j)
 
 -- how many of the first n are that number
 unfoldable pub times : (ℕ → ℕ) → ℕ → ℕ → ℕ
@@ -36,7 +37,7 @@ times entry id (suc n) = times entry id n + cond (eqb (entry n) id) 1 0
 
 -- there are 1 to 8 workers, and their counts together are at most the capacity
 unfoldable pub countsFit : List ℕ → List ℕ → Bool
-countsFit xs g = (ltb 0 (workersOf xs) && leb (workersOf xs) place.mostWorkers) && leb (totalOf xs) (capacityOf g)
+countsFit xs g = (ltb 0 (workersOf xs) && leb (workersOf xs) mostWorkers) && leb (totalOf xs) (capacityOf g)
 
 -- what is listed is active
 unfoldable pub entriesStand : List ℕ → List ℕ → Bool

@@ -14,7 +14,7 @@ use Rattle.contact_range.specs.Checked.{Checked}
 use Rattle.contact_range.specs.Range.{stands}
 use Rattle.contact_range.specs.RangeLaws.{first-of, rest-of, stands-found, listed-once}
 use Rattle.contact_range.specs.Recorded.{capacityOf, listedCount, listedAt}
-use Rattle.shares.specs.Counting.{sum-ones, all-ones, counted-twice}
+use Rattle.shares.specs.CountingLaws.{sum-ones, all-ones, counted-twice}
 use Rattle.shares.specs.Shares.{workersOf, startOf, totalOf, entryAt, times, countsFit, entriesStand, activeOnce, entriesOnce, sharesFit}
 
 -- ---- how often a number stands in a row

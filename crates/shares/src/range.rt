@@ -4,32 +4,32 @@ ghost use mathlib.Core.Bool.{_&&_};
 ghost use Prim.Native.Nat.{_+_, _≤_};
 ghost use lib.ListN.{length};
 ghost use Rattle.contact_range.specs.Checked.{Checked};
-ghost use Rattle.contact_range.specs.RangeSteps.{Unmarked};
+ghost use Rattle.contact_range.specs.RangeStepLaws.{Unmarked};
 ghost use Rattle.contact_range.specs.Recorded.{capacityOf};
-ghost use Rattle.shares.specs.Layout.{sharesLength};
+ghost use Rattle.layout.specs.Bits.{mostBlocks};
+ghost use Rattle.layout.specs.Shares.{sharesEntries, sharesLength};
+ghost use Rattle.rules.specs.Limits.{mostWorkers};
 ghost use Rattle.shares.specs.Shares.{startOf, totalOf, entriesStand, entriesOnce, sharesFit};
 use contact_graph::call::has_contact;
-use contact_range::layout::LISTED_PLACE;
-use contact_range::layout::number_at;
+use contact_range::places::number_at;
 use data_structures::bit_vec::get;
 use data_structures::bit_vec::set;
+use layout::bits::MOST_BLOCKS;
+use layout::graph::GRAPH_LISTED;
+use layout::limits::MOST_WORKERS;
+use layout::shares::SHARES_COUNTS;
+use layout::shares::SHARES_ENTRIES;
 use words::row::load_word;
-
-pub const MOST_WORKERS: usize = 8;
-
-pub const COUNTS_PLACE: usize = 1;
-
-pub const ENTRIES_PLACE: usize = 9;
 
 // The contacts of the workers before it.
 pub fn start_of(shares: &[u32], worker: usize) -> usize
-    requires { ⌜ (worker ≤ 8) × (9 ≤ length (now shares)) ⌝ }
+    requires { ⌜ (worker ≤ mostWorkers) × (sharesEntries ≤ length (now shares)) ⌝ }
     ensures { λ r. ⌜ r ≡ startOf (now (shares .entry)) worker ⌝ }
 {
     let mut total = 0;
     let mut w = 0;
     while w < worker {
-        total += load_word(shares, COUNTS_PLACE + w) as usize;
+        total += load_word(shares, SHARES_COUNTS + w) as usize;
         w += 1;
     }
     total
@@ -37,12 +37,12 @@ pub fn start_of(shares: &[u32], worker: usize) -> usize
 
 // Every entry is active, and none stands twice: each is marked, and none is marked already.
 fn entries_fit(shares: &[u32], graph: &[u32], total: usize, marks: &mut [u64]) -> bool
-    requires { ⌜ Checked (now graph) × (total ≡ totalOf (now shares)) × (9 + total ≤ length (now shares)) × (length (now marks) ≡ 4) × Unmarked (now marks) ⌝ }
+    requires { ⌜ Checked (now graph) × (total ≡ totalOf (now shares)) × (sharesEntries + total ≤ length (now shares)) × (length (now marks) ≡ mostBlocks) × Unmarked (now marks) ⌝ }
     ensures { λ r. ⌜ r ≡ (entriesStand (now (shares .entry)) (now (graph .entry)) && entriesOnce (now (shares .entry))) ⌝ }
 {
     let mut k = 0;
     while k < total {
-        let id = load_word(shares, ENTRIES_PLACE + k);
+        let id = load_word(shares, SHARES_ENTRIES + k);
         if !has_contact(graph, id) {
             return false;
         }
@@ -70,9 +70,9 @@ pub fn shares_fit(shares: &[u32], graph: &[u32]) -> bool
     if number_at(graph, 0) < total {
         return false;
     }
-    let mut marks = [0u64; 4];
+    let mut marks = [0u64; MOST_BLOCKS];
     if !entries_fit(shares, graph, total, &mut marks) {
         return false;
     }
-    total == number_at(graph, LISTED_PLACE)
+    total == number_at(graph, GRAPH_LISTED)
 }

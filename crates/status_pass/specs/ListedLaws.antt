@@ -10,13 +10,12 @@ use lib.Dec.{eqb}
 use lib.IntN.{ℤ}
 use Rattle.rows.specs.Rows.{put}
 use Rattle.rules.specs.Records.{Names}
-use Rattle.rules.specs.Status.{Event, started, ended, eventIf, Change, start, stop, count, stopIf, countOf}
-use Rattle.rule_laws.specs.Passing.{naming}
-use Rattle.rule_laws.specs.Visit.{changesFor, eventsFor}
-use Rattle.words.specs.Words.{wordAt}
-use Rattle.contact_records.specs.Ints.{word-back}
+use Rattle.rules.specs.Status.{Event, started, ended, eventIf, Change, start, stop, count, stopIf, countOf, changesFor, eventsFor}
+use Rattle.rule_laws.specs.PassingLaws.{naming}
+use Rattle.words.specs.Words.{wordAt, markWord}
+use Rattle.contact_records.specs.IntLaws.{word-back}
 use Rattle.contact_records.specs.Recorded.{markAt, intOf, flagsAt, edgeAt, namesAt, pairAt}
-use Rattle.contact_records.specs.Written.{markWord, optionalWords, intWord}
+use Rattle.contact_records.specs.Written.{optionalWords, intWord}
 use Rattle.status_pass.specs.EventsAndChanges.{namedWords, eventWords, changeWords}
 use Rattle.status_pass.specs.Verdicts.{plainVerdict}
 use Rattle.status_pass.specs.Listed.{eventWhere, eventsBy, changeWhere, changesBy, body1At, body2At, EventIs, ChangeIs, EventsWritten, ChangesWritten}
@@ -24,8 +23,8 @@ use Rattle.status_pass.specs.declared.verdict.Verdict.{Verdict}
 use Rattle.status_pass.specs.declared.verdict.Verdict.the-variants.{Vanishes, Starts, Stops, Generates, Recounts, Persists}
 use Rattle.status_pass.specs.declared.events.EventKind.{EventKind}
 use Rattle.status_pass.specs.declared.events.EventKind.the-variants as event
-use Rattle.status_pass.specs.declared.changes.ChangeKind.{ChangeKind}
-use Rattle.status_pass.specs.declared.changes.ChangeKind.the-variants as change
+use Rattle.status_pass.specs.declared.changes.ContactStatusChange.{ContactStatusChange}
+use Rattle.status_pass.specs.declared.changes.ContactStatusChange.the-variants as change
 
 -- ---- events
 ended-where : (b : Bool) (n : Names) → eventsBy (eventWhere b event.Ended) n ≡ eventIf b (ended n)
@@ -94,46 +93,46 @@ module _ (w : List ℕ) (id c d : ℕ) where
   abbrev names : Bool → Bool → Names
   names a b = naming id c d (cond a (some (body1At w)) none) (cond b (some (body2At w)) none)
 
-  stop-where : (g a b : Bool) → changesBy (changeWhere (g && (a && b)) change.Stop) w id ≡ stopIf g (names a b)
+  stop-where : (g a b : Bool) → changesBy (changeWhere (g && (a && b)) change.StoppedGeneratingConstraints) w id ≡ stopIf g (names a b)
   stop-where false a b = refl
   stop-where true false b = refl
   stop-where true true false = refl
   stop-where true true true = refl
 
-  count-where : (a b : Bool) (z : ℤ) → z ≡ intOf (wordAt w 18) → changesBy (changeWhere (a && b) change.Count) w id ≡ countOf (names a b) z
+  count-where : (a b : Bool) (z : ℤ) → z ≡ intOf (wordAt w 18) → changesBy (changeWhere (a && b) change.ManifoldCountChanged) w id ≡ countOf (names a b) z
   count-where false b z e = refl
   count-where true false z e = refl
   count-where true true z e = ap (λ (z : ℤ). count id (body1At w) (body2At w) z ∷ []) (sym e)
 
-start-where : (w : List ℕ) (id : ℕ) (g : Bool) → changesBy (changeWhere g change.Start) w id ≡ cond g (start id ∷ []) []
+start-where : (w : List ℕ) (id : ℕ) (g : Bool) → changesBy (changeWhere g change.StartedGeneratingConstraints) w id ≡ cond g (start id ∷ []) []
 start-where w id true = refl
 start-where w id false = refl
 
-module _ (w : List ℕ) {v : Verdict} {r : ChangeKind} where
+module _ (w : List ℕ) {v : Verdict} {r : ContactStatusChange} where
   pub change-vanishes : {g a b : ℕ} → g ≡ wordAt w 13 → a ≡ wordAt w 2 → b ≡ wordAt w 4 → v ≡ Vanishes
-      → r ≡ changeWhere (eqb g 1 && (eqb a 1 && eqb b 1)) change.Stop → ChangeIs w v r
+      → r ≡ changeWhere (eqb g 1 && (eqb a 1 && eqb b 1)) change.StoppedGeneratingConstraints → ChangeIs w v r
   unfolding pairAt namesAt flagsAt
   change-vanishes p q s e f = record { under = λ id. rw (e, f, p, q, s) (stop-where w id (wordAt w 0) (wordAt w 1) (markAt w 13) (markAt w 2) (markAt w 4)) }
 
   pub change-stops : {g a b : ℕ} → g ≡ wordAt w 13 → a ≡ wordAt w 2 → b ≡ wordAt w 4 → v ≡ Stops
-      → r ≡ changeWhere (eqb g 1 && (eqb a 1 && eqb b 1)) change.Stop → ChangeIs w v r
+      → r ≡ changeWhere (eqb g 1 && (eqb a 1 && eqb b 1)) change.StoppedGeneratingConstraints → ChangeIs w v r
   unfolding pairAt namesAt flagsAt
   change-stops p q s e f = record { under = λ id. rw (e, f, p, q, s) (stop-where w id (wordAt w 0) (wordAt w 1) (markAt w 13) (markAt w 2) (markAt w 4)) }
 
-  pub change-starts : {g : ℕ} → g ≡ wordAt w 13 → v ≡ Starts → r ≡ changeWhere (eqb g 1) change.Start → ChangeIs w v r
+  pub change-starts : {g : ℕ} → g ≡ wordAt w 13 → v ≡ Starts → r ≡ changeWhere (eqb g 1) change.StartedGeneratingConstraints → ChangeIs w v r
   unfolding pairAt namesAt flagsAt
   change-starts p e f = record { under = λ id. rw (e, f, p) (start-where w id (markAt w 13)) }
 
-  pub change-generates : v ≡ Generates → r ≡ change.Start → ChangeIs w v r
+  pub change-generates : v ≡ Generates → r ≡ change.StartedGeneratingConstraints → ChangeIs w v r
   unfolding pairAt namesAt
   change-generates e f = record { under = λ id. rw (e, f) }
 
-  pub change-recounts : {a b : ℕ} → a ≡ wordAt w 2 → b ≡ wordAt w 4 → v ≡ Recounts → r ≡ changeWhere (eqb a 1 && eqb b 1) change.Count → ChangeIs w v r
+  pub change-recounts : {a b : ℕ} → a ≡ wordAt w 2 → b ≡ wordAt w 4 → v ≡ Recounts → r ≡ changeWhere (eqb a 1 && eqb b 1) change.ManifoldCountChanged → ChangeIs w v r
   unfolding pairAt namesAt
   change-recounts q s e f = record { under = λ id. rw (e, f, q, s) (count-where w id (wordAt w 0) (wordAt w 1) (markAt w 2) (markAt w 4) (intOf (wordAt w 18)) refl) }
 
 -- what is stored after n changes
-module _ (w : List ℕ) (id : ℕ) {v : Verdict} {r : ChangeKind} (is : ChangeIs w v r) (row : List ℕ) (n : ℕ) where
+module _ (w : List ℕ) (id : ℕ) {v : Verdict} {r : ContactStatusChange} (is : ChangeIs w v r) (row : List ℕ) (n : ℕ) where
   pub change-none : r ≡ change.Nothing → ChangesWritten row n (changesFor (plainVerdict v) (pairAt w 0 id)) row n
   unfolding put
   change-none e = record { stored = rw (← is .under id, e); count = rw (← is .under id, e) (sym (add-zero n)) }
@@ -142,19 +141,19 @@ module _ (w : List ℕ) (id : ℕ) {v : Verdict} {r : ChangeKind} (is : ChangeIs
       → ChangesWritten row n (changesFor (plainVerdict v) (pairAt w 0 id)) row′ (n + 1)
   one-change x e p q = record { stored = q ∙ rw (← is .under id, e) (ap (put row (n * 5)) (p ∙ sym (append-nil (changeWords x)))); count = rw (← is .under id, e) }
 
-  pub change-start : {row′ : List ℕ} → r ≡ change.Start → row′ ≡ put row (n * 5) (0 ∷ id ∷ 0 ∷ 0 ∷ 0 ∷ [])
+  pub change-start : {row′ : List ℕ} → r ≡ change.StartedGeneratingConstraints → row′ ≡ put row (n * 5) (0 ∷ id ∷ 0 ∷ 0 ∷ 0 ∷ [])
       → ChangesWritten row n (changesFor (plainVerdict v) (pairAt w 0 id)) row′ (n + 1)
   unfolding changeWords
-  change-start e q = one-change (start id) (ap (λ (k : ChangeKind). changesBy k w id) e) refl q
+  change-start e q = one-change (start id) (ap (λ (k : ContactStatusChange). changesBy k w id) e) refl q
 
-  pub change-stop : {a b : ℕ} {row′ : List ℕ} → r ≡ change.Stop → a ≡ wordAt w 3 → b ≡ wordAt w 5 → row′ ≡ put row (n * 5) (1 ∷ id ∷ a ∷ b ∷ 0 ∷ [])
+  pub change-stop : {a b : ℕ} {row′ : List ℕ} → r ≡ change.StoppedGeneratingConstraints → a ≡ wordAt w 3 → b ≡ wordAt w 5 → row′ ≡ put row (n * 5) (1 ∷ id ∷ a ∷ b ∷ 0 ∷ [])
       → ChangesWritten row n (changesFor (plainVerdict v) (pairAt w 0 id)) row′ (n + 1)
   unfolding changeWords
-  change-stop e p s q = one-change (stop id (body1At w) (body2At w)) (ap (λ (k : ChangeKind). changesBy k w id) e) (λ i. 1 ∷ id ∷ p i ∷ s i ∷ 0 ∷ []) q
+  change-stop e p s q = one-change (stop id (body1At w) (body2At w)) (ap (λ (k : ContactStatusChange). changesBy k w id) e) (λ i. 1 ∷ id ∷ p i ∷ s i ∷ 0 ∷ []) q
 
-  pub change-count : {a b z : ℕ} {row′ : List ℕ} → r ≡ change.Count → a ≡ wordAt w 3 → b ≡ wordAt w 5 → z ≡ wordAt w 18 → z < 2 ^ 32
+  pub change-count : {a b z : ℕ} {row′ : List ℕ} → r ≡ change.ManifoldCountChanged → a ≡ wordAt w 3 → b ≡ wordAt w 5 → z ≡ wordAt w 18 → z < 2 ^ 32
       → row′ ≡ put row (n * 5) (2 ∷ id ∷ a ∷ b ∷ z ∷ []) → ChangesWritten row n (changesFor (plainVerdict v) (pairAt w 0 id)) row′ (n + 1)
   unfolding changeWords
   change-count {z = z} e p s t l q =
-      one-change (count id (body1At w) (body2At w) (intOf (wordAt w 18))) (ap (λ (k : ChangeKind). changesBy k w id) e)
+      one-change (count id (body1At w) (body2At w) (intOf (wordAt w 18))) (ap (λ (k : ContactStatusChange). changesBy k w id) e)
       (λ i. 2 ∷ id ∷ p i ∷ s i ∷ (sym (word-back z l) ∙ ap (λ (x : ℕ). intWord (intOf x)) t) i ∷ []) q

@@ -7,22 +7,22 @@ use lib.ListN.{length, getD}
 use Rattle.rows.specs.Rows.{part, put}
 use Rattle.rows.specs.Slots.{Distinct}
 use Rattle.rules.specs.Records.{Pair}
-use Rattle.rules.specs.Status.{Event, Change, Pass}
-use Rattle.rule_laws.specs.Visit.{Verdict, vanishes, starts, stops, generates, recounts, persists, verdict, changesFor, eventsFor}
-use Rattle.contact_records.specs.Layout as record-place
+use Rattle.rules.specs.Status.{Event, Change, Pass, Verdict, vanishes, starts, stops, generates, recounts, persists, verdict, changesFor, eventsFor}
+use Rattle.layout.specs.Change.{changeSize}
+use Rattle.layout.specs.Contact.{contactSize}
+use Rattle.layout.specs.Event.{eventSize}
 use Rattle.contact_records.specs.Recorded.{pairAt}
 use Rattle.contact_graph.specs.Calls.{removedWords}
 use Rattle.contact_range.specs.Checked.{Checked}
 use Rattle.contact_range.specs.Range as range
 use Rattle.contact_range.specs.Recorded.{contactAt, graphOf}
 use Rattle.status_pass.specs.Listed.{EventsWritten, ChangesWritten}
-use Rattle.status_pass.specs.EventsAndChanges.{eventSize, changeSize}
 use Rattle.status_pass.specs.Settled.{settledWords}
 use Rattle.status_pass.specs.declared.visit.WrittenCounts.{WrittenCounts}
 
 -- the contact's record written anew
 unfoldable pub settledGraph : Verdict → ℕ → List ℕ → List ℕ
-settledGraph v id g = put g (contactAt g id) (settledWords v (part g (contactAt g id) record-place.contactSize))
+settledGraph v id g = put g (contactAt g id) (settledWords v (part g (contactAt g id) contactSize))
 
 -- a disjoint contact is removed; of any other the record is written anew
 unfoldable pub visitedGraph : Verdict → ℕ → List ℕ → List ℕ

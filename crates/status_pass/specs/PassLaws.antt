@@ -19,26 +19,26 @@ use Rattle.rules.specs.Graph.{Graph, removedAt}
 use Rattle.rules.specs.Records.{Pair, Names}
 use Rattle.rules.specs.Numbers.{any}
 use Rattle.rule_laws.specs.NumberLaws.{any-same}
-use Rattle.rules.specs.Status.{Event, Change, Pass, eventIf, stopIf, countOf, written, visitAt, visitFound, visit, visitAll}
-use Rattle.rule_laws.specs.Visit.{Verdict, vanishes, starts, stops, generates, recounts, persists, verdict, next, changesFor, eventsFor, visitAs, visitAt-as}
+use Rattle.rules.specs.Status.{Event, Change, Pass, eventIf, stopIf, countOf, written, visitAt, visitFound, visit, visitAll, Verdict, vanishes, starts, stops, generates, recounts, persists, verdict, next, changesFor, eventsFor, visitAs}
+use Rattle.rule_laws.specs.VisitLaws.{visitAt-as}
 use Rattle.words.specs.Words.{wordAt}
 use Rattle.manifold_records.specs.Counts.{Counted}
-use Rattle.manifold_records.specs.Lists.{map-upto-same, getD-map-upto, length-map-upto}
-use Rattle.contact_records.specs.Apart.{pair-same}
-use Rattle.contact_records.specs.Held.{Same}
-use Rattle.contact_records.specs.Layout as record-place
+use Rattle.manifold_records.specs.ListLaws.{map-upto-same, getD-map-upto, length-map-upto}
+use Rattle.contact_records.specs.ApartLaws.{pair-same}
+use Rattle.contact_records.specs.HeldLaws.{Same}
+use Rattle.layout.specs.Contact.{contactEdgeFlags, contactManifolds, contactSize}
+use Rattle.layout.specs.Graph.{contactPlace}
 use Rattle.contact_records.specs.Recorded.{pairAt}
-use Rattle.contact_range.specs.Layout as place
 use Rattle.contact_range.specs.Recorded.{capacityOf, givenOf, listedCount, freeCount, listedAt, freeAt, contactAt, graphOf}
 use Rattle.contact_range.specs.Range as range
 use Rattle.contact_range.specs.RangeLaws.{counts, Fitting, fitting, stands-at, stands-found, listed-given, listed-index, listed-once, listed-fits, standing-fits, standing-below, free-given, free-once, free-not-standing, given-known, pair-once}
-use Rattle.contact_range.specs.RangeShown.{EachInRange, fitting-test, each-in-range}
+use Rattle.contact_range.specs.RangeShownLaws.{EachInRange, fitting-test, each-in-range}
 use Rattle.contact_graph.specs.Calls.{placeOf, removedWords}
 use Rattle.contact_range.specs.Checked.{Checked}
-use Rattle.contact_graph.specs.Effects.{contact-after, contact-room, same-or-not, word-apart}
+use Rattle.contact_graph.specs.EffectLaws.{contact-after, contact-room, same-or-not, word-apart}
 use Rattle.contact_range.specs.FitsLaws.{fits-same}
-use Rattle.contact_graph.specs.AddedGraph.{right-kept, listedPair, listed-counted}
-use Rattle.contact_graph.specs.RemovedGraph.{here, named, removed-effect, removed-in-range, removed-pairIndex, removed-at, getD-any}
+use Rattle.contact_graph.specs.AddedGraphLaws.{right-kept, listedPair, listed-counted}
+use Rattle.contact_graph.specs.RemovedGraphLaws.{here, named, removed-effect, removed-in-range, removed-pairIndex, removed-at, getD-any}
 use Rattle.status_pass.specs.Settled.{settledWords}
 use Rattle.status_pass.specs.SettleLaws.{settled-length, before-marks, settled-word, settled-pair, settled-fitting}
 use Rattle.status_pass.specs.Pass.{settledGraph, visitedGraph, Passing, visitedPair, visitWords, passWords, plainPass, PassReady}
@@ -48,7 +48,7 @@ part-same : (xs : List ℕ) (at n : ℕ) → Same xs at (part xs at n) 0 n
 part-same xs at n = record { each = λ i l. ap (wordAt (part xs at n)) (zero-add i) ∙ getD-part xs at n i 0 l }
 
 abbrev recordOf : List ℕ → ℕ → List ℕ
-recordOf g id = part g (contactAt g id) record-place.contactSize
+recordOf g id = part g (contactAt g id) contactSize
 
 -- ---- a record written anew
 module _ (v : Verdict) {g : List ℕ} (id : ℕ) (c : Checked g) (st : range.stands g id ≡ true) where
@@ -58,10 +58,10 @@ module _ (v : Verdict) {g : List ℕ} (id : ℕ) (c : Checked g) (st : range.sta
   below : id < capacityOf g
   below = standing-below (c .range) id st
 
-  record-size : length (recordOf g id) ≡ record-place.contactSize
-  record-size = length-part g (contactAt g id) record-place.contactSize (contact-room (c .right) id below)
+  record-size : length (recordOf g id) ≡ contactSize
+  record-size = length-part g (contactAt g id) contactSize (contact-room (c .right) id below)
 
-  settled-size : length (settledWords v (recordOf g id)) ≡ record-place.contactSize
+  settled-size : length (settledWords v (recordOf g id)) ≡ contactSize
   settled-size = settled-length v (recordOf g id) ∙ record-size
 
   graph-length : length h ≡ length g
@@ -69,7 +69,7 @@ module _ (v : Verdict) {g : List ℕ} (id : ℕ) (c : Checked g) (st : range.sta
   graph-length = length-put g (contactAt g id) (settledWords v (recordOf g id))
 
   -- ---- words that stay
-  word-kept : (j : ℕ) → (j < contactAt g id) ⊎ (contactAt g id + record-place.contactSize ≤ j) → wordAt h j ≡ wordAt g j
+  word-kept : (j : ℕ) → (j < contactAt g id) ⊎ (contactAt g id + contactSize ≤ j) → wordAt h j ≡ wordAt g j
   unfolding settledGraph
   word-kept j a =
       getD-put-apart g (contactAt g id) (settledWords v (recordOf g id)) j 0
@@ -97,21 +97,21 @@ module _ (v : Verdict) {g : List ℕ} (id : ℕ) (c : Checked g) (st : range.sta
   free-at k l = let n = counts (c .range) in ap (λ (m : ℕ). wordAt h (4 + m + k)) capacity-kept ∙ head-kept (4 + capacityOf g + k) (omega arith)
 
   -- the records of the others, and the contact's own
-  other-word : (i o : ℕ) → i ≢ id → o < record-place.contactSize → wordAt h (contactAt h i + o) ≡ wordAt g (contactAt g i + o)
+  other-word : (i o : ℕ) → i ≢ id → o < contactSize → wordAt h (contactAt h i + o) ≡ wordAt g (contactAt g i + o)
   other-word i o n l =
-      ap (λ (m : ℕ). wordAt h (place.contactPlace m i + o)) capacity-kept ∙ word-kept (contactAt g i + o) (word-apart (4 + 2 * capacityOf g) i id o n l)
+      ap (λ (m : ℕ). wordAt h (contactPlace m i + o)) capacity-kept ∙ word-kept (contactAt g i + o) (word-apart (4 + 2 * capacityOf g) i id o n l)
 
-  own-part : part h (contactAt g id) record-place.contactSize ≡ settledWords v (recordOf g id)
+  own-part : part h (contactAt g id) contactSize ≡ settledWords v (recordOf g id)
   unfolding settledGraph
-  own-part = part-put g (contactAt g id) (settledWords v (recordOf g id)) record-place.contactSize settled-size (contact-room (c .right) id below)
+  own-part = part-put g (contactAt g id) (settledWords v (recordOf g id)) contactSize settled-size (contact-room (c .right) id below)
 
-  own-word : (o : ℕ) → o < record-place.contactSize → wordAt h (contactAt h id + o) ≡ wordAt (settledWords v (recordOf g id)) o
+  own-word : (o : ℕ) → o < contactSize → wordAt h (contactAt h id + o) ≡ wordAt (settledWords v (recordOf g id)) o
   own-word o l =
-      ap (λ (m : ℕ). wordAt h (place.contactPlace m id + o)) capacity-kept ∙ sym (getD-part h (contactAt g id) record-place.contactSize o 0 l)
+      ap (λ (m : ℕ). wordAt h (contactPlace m id + o)) capacity-kept ∙ sym (getD-part h (contactAt g id) contactSize o 0 l)
       ∙ ap (λ (ws : List ℕ). wordAt ws o) own-part
 
   -- what any record names, and its place in the list
-  names-kept : (i o : ℕ) → o < record-place.edgePlace → wordAt h (contactAt h i + o) ≡ wordAt g (contactAt g i + o)
+  names-kept : (i o : ℕ) → o < contactEdgeFlags → wordAt h (contactAt h i + o) ≡ wordAt g (contactAt g i + o)
   names-kept i o l =
       elim (same-or-not i id) [
         | inl e ↦ subst (λ (k : ℕ). wordAt h (contactAt h k + o) ≡ wordAt g (contactAt g k + o)) (sym e) own
@@ -119,9 +119,9 @@ module _ (v : Verdict) {g : List ℕ} (id : ℕ) (c : Checked g) (st : range.sta
       ]
     where
       own : wordAt h (contactAt h id + o) ≡ wordAt g (contactAt g id + o)
-      own = own-word o (omega arith) ∙ settled-word v (recordOf g id) o (before-marks o l) ∙ getD-part g (contactAt g id) record-place.contactSize o 0 (omega arith)
+      own = own-word o (omega arith) ∙ settled-word v (recordOf g id) o (before-marks o l) ∙ getD-part g (contactAt g id) contactSize o 0 (omega arith)
 
-  listed-word : (p o : ℕ) → p < listedCount g → o < record-place.edgePlace → wordAt h (contactAt h (listedAt h p) + o) ≡ wordAt g (contactAt g (listedAt g p) + o)
+  listed-word : (p o : ℕ) → p < listedCount g → o < contactEdgeFlags → wordAt h (contactAt h (listedAt h p) + o) ≡ wordAt g (contactAt g (listedAt g p) + o)
   listed-word p o l b = ap (λ (i : ℕ). wordAt h (contactAt h i + o)) (listed-at p l) ∙ names-kept (listedAt g p) o b
 
   listed-first : (p : ℕ) → p < listedCount g → wordAt h (contactAt h (listedAt h p)) ≡ wordAt g (contactAt g (listedAt g p))
@@ -147,9 +147,9 @@ module _ (v : Verdict) {g : List ℕ} (id : ℕ) (c : Checked g) (st : range.sta
   record-fitting : Fitting (recordOf g id) 0
   record-fitting =
       fitting (recordOf g id) 0
-      (fits-same g (contactAt g id) (recordOf g id) 0 (λ o l _. part-same g (contactAt g id) record-place.contactSize .each o l) ∙ fitting-test (standing-fits (c .range) id st))
+      (fits-same g (contactAt g id) (recordOf g id) 0 (λ o l _. part-same g (contactAt g id) contactSize .each o l) ∙ fitting-test (standing-fits (c .range) id st))
 
-  own-same : Same (settledWords v (recordOf g id)) 0 h (contactAt h id) record-place.contactSize
+  own-same : Same (settledWords v (recordOf g id)) 0 h (contactAt h id) contactSize
   own-same = record { each = λ o l. own-word o l ∙ ap (wordAt (settledWords v (recordOf g id))) (sym (zero-add o)) }
 
   own-fitting : Fitting h (contactAt h id)
@@ -272,7 +272,7 @@ module _ {g : List ℕ} (id : ℕ) (c : Checked g) (st : range.stands g id ≡ t
   own-listed : listedPair g (placeOf g id) ≡ visitedPair g id
   own-listed = ap (λ (k : ℕ). pairAt g (contactAt g k) k) (named id c st)
 
-  own-counted : Counted g (contactAt g id + record-place.manifoldsPlace)
+  own-counted : Counted g (contactAt g id + contactManifolds)
   own-counted = let t = standing-fits (c .range) id st in record { manifolds = t .manifolds; points = t .points }
 
   module _ (v : Verdict) {q : Pair} (e : next v (visitedPair g id) ≡ some q) where
@@ -282,7 +282,7 @@ module _ {g : List ℕ} (id : ℕ) (c : Checked g) (st : range.stands g id ≡ t
         pair-same id (record { manifolds = t .manifolds; points = t .points }) (own-same v id c st)
         ∙ Option·some-injective (pairAt (settledWords v (recordOf g id)) 0 id) q
         (sym (settled-pair v (recordOf g id) id (record-size v id c st) (staying v (visitedPair g id) q e))
-        ∙ ap (next v) (pair-same id own-counted (part-same g (contactAt g id) record-place.contactSize)) ∙ e)
+        ∙ ap (next v) (pair-same id own-counted (part-same g (contactAt g id) contactSize)) ∙ e)
 
     other-pair : (p : ℕ) → p < listedCount g → p ≢ placeOf g id → listedPair (settledGraph v id g) p ≡ listedPair g p
     other-pair p l d =
@@ -344,7 +344,7 @@ module _ (s : Passing) (id : ℕ) (c : Checked (s .graph)) (st : range.stands (s
   visit-as recounts = as-written recounts refl
   visit-as persists =
       λ i. record {
-        graph = graphOf (sym (put-part (s .graph) (contactAt (s .graph) id) record-place.contactSize) i);
+        graph = graphOf (sym (put-part (s .graph) (contactAt (s .graph) id) contactSize) i);
         events = sym (append-nil (s .events)) i;
         changes = sym (append-nil (s .changes)) i;
       }

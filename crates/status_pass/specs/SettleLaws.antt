@@ -14,18 +14,17 @@ use Rattle.rows.specs.Rows.{put}
 use Rattle.rows.specs.Slots.{upto}
 use Rattle.rows.specs.Laws.{length-put, getD-put, getD-put-apart}
 use Rattle.rules.specs.Limits.{bodies}
-use Rattle.rules.specs.Status.{withStatus, withStatusMarks}
-use Rattle.rule_laws.specs.Visit.{Verdict, vanishes, starts, stops, generates, recounts, persists, next}
+use Rattle.rules.specs.Status.{withStatus, withStatusMarks, Verdict, vanishes, starts, stops, generates, recounts, persists, next}
 use Rattle.words.specs.Words.{wordAt}
-use Rattle.manifold_records.specs.Lists.{map-upto-same}
+use Rattle.manifold_records.specs.ListLaws.{map-upto-same}
 use Rattle.manifold_records.specs.Recorded.{pointsAt, manifoldAt, manifoldsAt}
-use Rattle.contact_records.specs.Apart.{vec3-same, point-same, names-same, cache-same}
-use Rattle.contact_records.specs.Held.{Same, same-in, first-same}
-use Rattle.contact_records.specs.Layout as place
+use Rattle.contact_records.specs.ApartLaws.{vec3-same, point-same, names-same, cache-same}
+use Rattle.contact_records.specs.HeldLaws.{Same, same-in, first-same}
+use Rattle.layout.specs.Contact.{contactCountChange, contactEdgeFlags, contactSize}
 use Rattle.contact_records.specs.Recorded.{intOf, flagsAt, edgeAt, pairAt}
 use Rattle.contact_range.specs.Range.{optionalFits}
 use Rattle.contact_range.specs.RangeLaws.{Fitting}
-use Rattle.contact_graph.specs.Effects.{differ, same-or-not}
+use Rattle.contact_graph.specs.EffectLaws.{differ, same-or-not}
 use Rattle.status_pass.specs.Settled.{startedPlace, stoppedPlace, generatingPlace, startedWords, stoppedWords, settledWords}
 
 -- ---- one word stored
@@ -42,25 +41,25 @@ pub settled-length : (v : Verdict) (w : List ℕ) → length (settledWords v w) 
 unfolding settledWords
 settled-length vanishes w = refl
 settled-length starts w =
-    length-one (put (put w place.edgePlace (1 ∷ [])) startedPlace (0 ∷ [])) generatingPlace 0
-    ∙ length-one (put w place.edgePlace (1 ∷ [])) startedPlace 0 ∙ length-one w place.edgePlace 1
-settled-length stops w = length-one (put w place.edgePlace (0 ∷ [])) stoppedPlace 0 ∙ length-one w place.edgePlace 0
+    length-one (put (put w contactEdgeFlags (1 ∷ [])) startedPlace (0 ∷ [])) generatingPlace 0
+    ∙ length-one (put w contactEdgeFlags (1 ∷ [])) startedPlace 0 ∙ length-one w contactEdgeFlags 1
+settled-length stops w = length-one (put w contactEdgeFlags (0 ∷ [])) stoppedPlace 0 ∙ length-one w contactEdgeFlags 0
 settled-length generates w = length-one w generatingPlace 0
-settled-length recounts w = length-one w place.countChangePlace 0
+settled-length recounts w = length-one w contactCountChange 0
 settled-length persists w = refl
 
 -- ---- the words that stay
 pub record Untouched (o : ℕ) : Type 0 where
-  pub edge : o ≢ place.edgePlace
+  pub edge : o ≢ contactEdgeFlags
   pub began : o ≢ startedPlace
   pub ceased : o ≢ stoppedPlace
   pub generating : o ≢ generatingPlace
-  pub change : o ≢ place.countChangePlace
+  pub change : o ≢ contactCountChange
 
-pub before-marks : (o : ℕ) → o < place.edgePlace → Untouched o
+pub before-marks : (o : ℕ) → o < contactEdgeFlags → Untouched o
 before-marks o h = record { edge = omega arith; began = omega arith; ceased = omega arith; generating = omega arith; change = omega arith }
 
-pub after-marks : (o : ℕ) → place.countChangePlace < o → Untouched o
+pub after-marks : (o : ℕ) → contactCountChange < o → Untouched o
 after-marks o h = record { edge = omega arith; began = omega arith; ceased = omega arith; generating = omega arith; change = omega arith }
 
 -- at a numeral, by a test
@@ -76,11 +75,11 @@ pub settled-word : (v : Verdict) (w : List ℕ) (o : ℕ) → Untouched o → wo
 unfolding settledWords
 settled-word vanishes w o u = refl
 settled-word starts w o u =
-    put-other (put (put w place.edgePlace (1 ∷ [])) startedPlace (0 ∷ [])) generatingPlace 0 o (u .generating)
-    ∙ put-other (put w place.edgePlace (1 ∷ [])) startedPlace 0 o (u .began) ∙ put-other w place.edgePlace 1 o (u .edge)
-settled-word stops w o u = put-other (put w place.edgePlace (0 ∷ [])) stoppedPlace 0 o (u .ceased) ∙ put-other w place.edgePlace 0 o (u .edge)
+    put-other (put (put w contactEdgeFlags (1 ∷ [])) startedPlace (0 ∷ [])) generatingPlace 0 o (u .generating)
+    ∙ put-other (put w contactEdgeFlags (1 ∷ [])) startedPlace 0 o (u .began) ∙ put-other w contactEdgeFlags 1 o (u .edge)
+settled-word stops w o u = put-other (put w contactEdgeFlags (0 ∷ [])) stoppedPlace 0 o (u .ceased) ∙ put-other w contactEdgeFlags 0 o (u .edge)
 settled-word generates w o u = put-other w generatingPlace 0 o (u .generating)
-settled-word recounts w o u = put-other w place.countChangePlace 0 o (u .change)
+settled-word recounts w o u = put-other w contactCountChange 0 o (u .change)
 settled-word persists w o u = refl
 
 -- ---- the pair
@@ -149,7 +148,7 @@ module _ (w h : List ℕ) (same : (o : ℕ) → Untouched o → wordAt h o ≡ w
       }
 
 -- what becomes of a pair that stays
-pub settled-pair : (v : Verdict) (w : List ℕ) (id : ℕ) → length w ≡ place.contactSize → (v ≡ vanishes → ⊥) → next v (pairAt w 0 id) ≡ some (pairAt (settledWords v w) 0 id)
+pub settled-pair : (v : Verdict) (w : List ℕ) (id : ℕ) → length w ≡ contactSize → (v ≡ vanishes → ⊥) → next v (pairAt w 0 id) ≡ some (pairAt (settledWords v w) 0 id)
 unfolding settledWords pairAt flagsAt edgeAt
 settled-pair vanishes w id l n = absurd (n refl)
 settled-pair starts w id l n =
@@ -197,7 +196,7 @@ put-mark w at x o b h m =
       | inr n ↦ let z = put-other w at x o n in omega arith
     ]
 
-pub settled-mark : (v : Verdict) (w : List ℕ) (o : ℕ) → length w ≡ place.contactSize → wordAt w o < 2 → wordAt (settledWords v w) o < 2
+pub settled-mark : (v : Verdict) (w : List ℕ) (o : ℕ) → length w ≡ contactSize → wordAt w o < 2 → wordAt (settledWords v w) o < 2
 unfolding settledWords
 settled-mark vanishes w o l m = m
 settled-mark starts w o l m =
@@ -214,18 +213,18 @@ settled-mark generates w o l m = put-mark w 14 0 o (omega arith) (omega arith) m
 settled-mark recounts w o l m = put-mark w 18 0 o (omega arith) (omega arith) m
 settled-mark persists w o l m = m
 
-module _ (v : Verdict) (w : List ℕ) (l : length w ≡ place.contactSize) (f : Fitting w 0) where
+module _ (v : Verdict) (w : List ℕ) (l : length w ≡ contactSize) (f : Fitting w 0) where
   abbrev h : List ℕ
   h = settledWords v w
 
-  early : (o : ℕ) → o < place.edgePlace → wordAt h o ≡ wordAt w o
+  early : (o : ℕ) → o < contactEdgeFlags → wordAt h o ≡ wordAt w o
   early o b = settled-word v w o (before-marks o b)
 
-  late : (o : ℕ) → place.countChangePlace < o → wordAt h o ≡ wordAt w o
+  late : (o : ℕ) → contactCountChange < o → wordAt h o ≡ wordAt w o
   late o b = settled-word v w o (after-marks o b)
 
   -- a body's mark and number
-  optional-kept : (o : ℕ) → o + 1 < place.edgePlace → T (optionalFits bodies w o) → T (optionalFits bodies h o)
+  optional-kept : (o : ℕ) → o + 1 < contactEdgeFlags → T (optionalFits bodies w o) → T (optionalFits bodies h o)
   optional-kept o b t =
       let fits : ℕ → ℕ → Bool = λ m n. ltb m 2 && cond (eqb m 1) (ltb n bodies) true in
       subst T (sym (λ i. fits (early o (omega arith) i) (early (o + 1) b i))) t

@@ -9,7 +9,7 @@ use lib.Dec.{eqb, ltb}
 use lib.IntN.{pos, negsuc}
 use Rattle.rules.specs.Records.{PairFlags}
 use Rattle.rules.specs.Update.{nonZero}
-use Rattle.rule_laws.specs.Visit.{pick, verdict}
+use Rattle.rules.specs.Status.{pick, verdict}
 use Rattle.words.specs.Words.{wordAt}
 use Rattle.contact_records.specs.Recorded.{intOf, flagsAt, pairAt}
 

@@ -2,7 +2,7 @@
 use Prim.Native.Nat.{ℕ}
 use mathlib.Core.Path.{_≡_}
 use mathlib.Core.List.{List}
-use Rattle.rule_laws.specs.Visit as rules
+use Rattle.rules.specs.Status as rules
 use Rattle.contact_records.specs.Recorded.{pairAt}
 use Rattle.status_pass.specs.declared.verdict.Verdict.{Verdict}
 use Rattle.status_pass.specs.declared.verdict.Verdict.the-variants.{Vanishes, Starts, Stops, Generates, Recounts, Persists}

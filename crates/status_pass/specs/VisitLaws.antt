@@ -12,18 +12,17 @@ use Rattle.rows.specs.Rows.{part, put, each}
 use Rattle.rows.specs.Laws.{length-put, length-part, put-next, put-lent}
 use Rattle.rows.specs.EachLaws.{each-append, length-each}
 use Rattle.rules.specs.Records.{Pair, Names}
-use Rattle.rules.specs.Status.{Event, started, ended, Change, start, stop, count}
-use Rattle.rule_laws.specs.Visit as rules
-use Rattle.rule_laws.specs.Visit.{verdict, changesFor, eventsFor}
-use Rattle.contact_records.specs.Apart.{pair-part}
-use Rattle.contact_records.specs.Layout as record-place
+use Rattle.rules.specs.Status.{Event, started, ended, Change, start, stop, count, verdict, changesFor, eventsFor}
+use Rattle.rules.specs.Status as rules
+use Rattle.contact_records.specs.ApartLaws.{pair-part}
+use Rattle.layout.specs.Contact.{contactSize}
 use Rattle.contact_records.specs.Recorded.{pairAt}
 use Rattle.contact_records.specs.Written.{optionalWords}
 use Rattle.contact_range.specs.Checked.{Checked}
 use Rattle.contact_range.specs.Range.{stands}
 use Rattle.contact_range.specs.RangeLaws.{standing-fits, standing-below}
 use Rattle.contact_range.specs.Recorded.{capacityOf, contactAt}
-use Rattle.contact_graph.specs.Effects.{contact-room}
+use Rattle.contact_graph.specs.EffectLaws.{contact-room}
 use Rattle.status_pass.specs.EventsAndChanges.{eventWords, changeWords}
 use Rattle.status_pass.specs.Settled.{settledWords}
 use Rattle.status_pass.specs.Listed.{Appended, EventsWritten, ChangesWritten}
@@ -35,16 +34,16 @@ use Rattle.status_pass.specs.declared.verdict.Verdict.{Verdict}
 use Rattle.status_pass.specs.declared.visit.WrittenCounts.{WrittenCounts}
 
 -- ---- the contact's own record, as it is lent on
-module _ {g : List ℕ} (id : ℕ) (c : Checked g) (s : stands g id ≡ true) {at n : ℕ} (p : at ≡ contactAt g id) (q : n ≡ record-place.contactSize) where
+module _ {g : List ℕ} (id : ℕ) (c : Checked g) (s : stands g id ≡ true) {at n : ℕ} (p : at ≡ contactAt g id) (q : n ≡ contactSize) where
   pub own-room : at + n ≤ length g
   own-room = let b = contact-room (c .right) id (standing-below (c .range) id s) in omega arith
 
-  own-part : take n (drop at g) ≡ part g (contactAt g id) record-place.contactSize
+  own-part : take n (drop at g) ≡ part g (contactAt g id) contactSize
   unfolding part
   own-part = λ i. take (q i) (drop (p i) g)
 
-  pub own-length : length (take n (drop at g)) ≡ record-place.contactSize
-  own-length = ap (λ (w : List ℕ). length w) own-part ∙ length-part g (contactAt g id) record-place.contactSize (contact-room (c .right) id (standing-below (c .range) id s))
+  pub own-length : length (take n (drop at g)) ≡ contactSize
+  own-length = ap (λ (w : List ℕ). length w) own-part ∙ length-part g (contactAt g id) contactSize (contact-room (c .right) id (standing-below (c .range) id s))
 
   pub own-pair : pairAt (take n (drop at g)) 0 id ≡ visitedPair g id
   own-pair =

@@ -3,19 +3,24 @@ ghost use mathlib.Core.Path.{_≡_};
 ghost use mathlib.Core.Bool.{cond};
 ghost use Prim.Native.Nat.{_+_, _*_, _≤_};
 ghost use lib.ListN.{length};
-ghost use Rattle.words.specs.Words.{wordAt};
-ghost use Rattle.rule_laws.specs.Visit.{eventsFor};
-ghost use Rattle.contact_records.specs.Layout.{contactSize};
+ghost use Rattle.words.specs.Words.{wordAt, markWord};
+ghost use Rattle.rules.specs.Status.{eventsFor};
+ghost use Rattle.layout.specs.Contact.{contactSize};
+ghost use Rattle.layout.specs.Event.{eventSize};
 ghost use Rattle.contact_records.specs.Recorded.{markAt, namesAt, pairAt};
-ghost use Rattle.contact_records.specs.Written.{markWord};
 ghost use Rattle.status_pass.specs.EventsAndChanges.{namedWords};
 ghost use Rattle.status_pass.specs.Verdicts.{plainVerdict};
 ghost use Rattle.status_pass.specs.Listed.{eventWhere, EventIs, EventsWritten};
 use crate::verdict::Verdict;
+use layout::contact::CONTACT_BODY1;
+use layout::contact::CONTACT_BODY2;
+use layout::contact::CONTACT_COLLIDER1;
+use layout::contact::CONTACT_COLLIDER2;
+use layout::contact::EDGE_CONTACT_EVENTS;
+use layout::contact::EDGE_TOUCHING;
+use layout::event::EVENT_SIZE;
 use words::row::load_word;
 use words::row::store_words;
-
-pub const EVENT_SIZE: usize = 8;
 
 pub enum EventKind {
     Nothing,
@@ -34,8 +39,8 @@ fn event_of(words: &[u32], v: Verdict) -> EventKind
     requires { ⌜ length (now words) ≡ contactSize ⌝ }
     ensures { λ r. ⌜ EventIs (now (words .entry)) v r ⌝ }
 {
-    let touching = load_word(words, 7) == 1;
-    let events = load_word(words, 8) == 1;
+    let touching = load_word(words, EDGE_TOUCHING) == 1;
+    let events = load_word(words, EDGE_CONTACT_EVENTS) == 1;
     match v {
         Verdict::Vanishes => event_where(touching & events, EventKind::Ended),
         Verdict::Starts => event_where(events, EventKind::Started),
@@ -65,25 +70,25 @@ fn optional_number(words: &[u32], at: usize) -> u32
     }
 }
 
-fn event_words(words: &[u32], id: u32, kind: u32) -> [u32; 8]
+fn event_words(words: &[u32], id: u32, kind: u32) -> [u32; EVENT_SIZE]
     requires { ⌜ length (now words) ≡ contactSize ⌝ }
     ensures { λ r. ⌜ r ≡ namedWords kind (namesAt (now (words .entry)) 0 id) ⌝ }
 {
     [
         kind,
         id,
-        load_word(words, 0),
-        load_word(words, 1),
-        optional_mark(words, 2),
-        optional_number(words, 2),
-        optional_mark(words, 4),
-        optional_number(words, 4),
+        load_word(words, CONTACT_COLLIDER1),
+        load_word(words, CONTACT_COLLIDER2),
+        optional_mark(words, CONTACT_BODY1),
+        optional_number(words, CONTACT_BODY1),
+        optional_mark(words, CONTACT_BODY2),
+        optional_number(words, CONTACT_BODY2),
     ]
 }
 
 // n events are written already. Answers how many are then.
 pub fn record_event(events: &mut [u32], n: usize, words: &[u32], id: u32, v: Verdict) -> usize
-    requires { ⌜ (length (now words) ≡ contactSize) × (n * 8 + 8 ≤ length (now events)) ⌝ }
+    requires { ⌜ (length (now words) ≡ contactSize) × (n * eventSize + eventSize ≤ length (now events)) ⌝ }
     ensures { λ r. ⌜ EventsWritten (now (events .entry)) n (eventsFor (plainVerdict v) (pairAt (now (words .entry)) 0 id)) (now (events .exit)) r ⌝ }
 {
     match event_of(words, v) {

@@ -1,10 +1,15 @@
 // What becomes of the record of a contact that stays: edge and pair marks, and the count change.
 ghost use mathlib.Core.Path.{_≡_};
 ghost use lib.ListN.{length};
-ghost use Rattle.contact_records.specs.Layout.{contactSize};
+ghost use Rattle.layout.specs.Contact.{contactSize};
 ghost use Rattle.status_pass.specs.Verdicts.{plainVerdict};
 ghost use Rattle.status_pass.specs.Settled.{startedWords, stoppedWords, settledWords};
 use crate::verdict::Verdict;
+use layout::contact::CONTACT_COUNT_CHANGE;
+use layout::contact::EDGE_TOUCHING;
+use layout::contact::PAIR_STARTED_GENERATING_CONSTRAINTS;
+use layout::contact::PAIR_STARTED_TOUCHING;
+use layout::contact::PAIR_STOPPED_TOUCHING;
 use words::row::store_word;
 
 // The edge touches, and both started marks are cleared.
@@ -12,17 +17,17 @@ fn settle_started(words: &mut [u32])
     requires { ⌜ length (now words) ≡ contactSize ⌝ }
     ensures { λ _. ⌜ now (words .exit) ≡ startedWords (now (words .entry)) ⌝ }
 {
-    store_word(words, 7, 1);
-    store_word(words, 11, 0);
-    store_word(words, 14, 0);
+    store_word(words, EDGE_TOUCHING, 1);
+    store_word(words, PAIR_STARTED_TOUCHING, 0);
+    store_word(words, PAIR_STARTED_GENERATING_CONSTRAINTS, 0);
 }
 
 fn settle_stopped(words: &mut [u32])
     requires { ⌜ length (now words) ≡ contactSize ⌝ }
     ensures { λ _. ⌜ now (words .exit) ≡ stoppedWords (now (words .entry)) ⌝ }
 {
-    store_word(words, 7, 0);
-    store_word(words, 12, 0);
+    store_word(words, EDGE_TOUCHING, 0);
+    store_word(words, PAIR_STOPPED_TOUCHING, 0);
 }
 
 pub fn settle(words: &mut [u32], v: Verdict)
@@ -33,8 +38,8 @@ pub fn settle(words: &mut [u32], v: Verdict)
         Verdict::Vanishes => {}
         Verdict::Starts => settle_started(words),
         Verdict::Stops => settle_stopped(words),
-        Verdict::Generates => store_word(words, 14, 0),
-        Verdict::Recounts => store_word(words, 18, 0),
+        Verdict::Generates => store_word(words, PAIR_STARTED_GENERATING_CONSTRAINTS, 0),
+        Verdict::Recounts => store_word(words, CONTACT_COUNT_CHANGE, 0),
         Verdict::Persists => {}
     }
 }

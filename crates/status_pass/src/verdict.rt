@@ -1,9 +1,11 @@
 // Which case of the status pass a contact meets: the first that holds.
 ghost use mathlib.Core.Path.{_≡_};
 ghost use lib.ListN.{length};
-ghost use Rattle.contact_records.specs.Layout.{contactSize};
+ghost use Rattle.layout.specs.Contact.{contactSize};
 ghost use Rattle.status_pass.specs.Verdicts.{VerdictIs};
 use contact_records::state::load_flags;
+use layout::contact::CONTACT_COUNT_CHANGE;
+use layout::contact::CONTACT_FLAGS;
 use words::row::load_word;
 
 pub enum Verdict {
@@ -22,8 +24,8 @@ pub fn verdict_of(words: &[u32]) -> Verdict
     requires { ⌜ length (now words) ≡ contactSize ⌝ }
     ensures { λ r. ⌜ VerdictIs (now (words .entry)) r ⌝ }
 {
-    let f = load_flags(words, 9);
-    let change = load_word(words, 18);
+    let f = load_flags(words, CONTACT_FLAGS);
+    let change = load_word(words, CONTACT_COUNT_CHANGE);
     if f.disjoint_aabb {
         return Verdict::Vanishes;
     }

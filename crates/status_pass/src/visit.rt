@@ -11,8 +11,8 @@ use crate::settle::settle;
 use crate::verdict::Verdict;
 use crate::verdict::verdict_of;
 use contact_graph::remove::remove_standing;
-use contact_range::layout::CONTACT_SIZE;
-use contact_range::layout::contact_at;
+use contact_range::places::contact_at;
+use layout::contact::CONTACT_SIZE;
 
 // How many events and changes are written.
 pub struct WrittenCounts {

@@ -12,7 +12,7 @@ use Rattle.contact_range.specs.Recorded.{capacityOf}
 use Rattle.contact_types.specs.Refusals.{numberOf}
 use Rattle.contact_types.specs.RefusalLaws.{some-number}
 use Rattle.contact_types.specs.declared.refusal.Refusal.{Refusal}
-use Rattle.step.specs.Accepted.{GivenWords, given-words, number-tests}
+use Rattle.step.specs.AcceptedLaws.{GivenWords, given-words, number-tests}
 use Rattle.step.specs.Step.{Given, Rows, givenLong, rowsLong, lengthsFit, numbersFit, stepRefusal, StepDone, Stepped}
 use Rattle.step.specs.declared.answer.StepReport.{StepReport}
 use Rattle.step.specs.declared.answer.StepAnswer.the-variants as answer

@@ -13,13 +13,13 @@ use Rattle.rules.specs.Inputs.{Settings}
 use Rattle.data_structures.specs.BitVec.{blocksOf, setBits, Visited}
 use Rattle.data_structures.specs.BitVecLaws.{blocks-hold, set-length, visited-length, visited-take}
 use Rattle.collider.specs.Recorded.{settingsOf}
-use Rattle.manifold_records.specs.Lists.{getD-map-upto, length-map-upto, length-zeros}
+use Rattle.manifold_records.specs.ListLaws.{getD-map-upto, length-map-upto, length-zeros}
 use Rattle.manifold_records.specs.Written.{zeros}
 use Rattle.contact_graph.specs.LaidOutLaws.{zeros-at}
 use Rattle.contact_range.specs.Range.{stands}
 use Rattle.contact_range.specs.RangeLaws.{first-of, rest-of}
 use Rattle.contact_range.specs.Recorded.{capacityOf}
-use Rattle.contact_update.specs.UpdateFits.{FitSettings, settings-fit-read}
+use Rattle.contact_update.specs.UpdateFitLaws.{FitSettings, settings-fit-read}
 use Rattle.shares.specs.Shares.{workersOf, totalOf, entryAt, countsFit, entriesStand, activeOnce, sharesFit}
 use Rattle.status_pass.specs.Pass.{begun, passWords, RowsReady, PassDone, Left}
 use Rattle.status_pass.specs.PassLaws.{pass-events, pass-changes}
@@ -30,7 +30,7 @@ use Rattle.update_pass.specs.BitsLaws.{workers-most, entries-active}
 use Rattle.update_pass.specs.JoinLaws.{join-parts, joined-length}
 use Rattle.update_pass.specs.Share.{AllListed, SharesReady, AllTaken, joinedParts}
 use Rattle.update_pass.specs.Shared.{activeOf, entriesOf, partsOf, joinedOf, recycledOf, distancesOf, standingIds}
-use Rattle.step.specs.Accepted.{Accepted, accepted, all-ready}
+use Rattle.step.specs.AcceptedLaws.{Accepted, accepted, all-ready}
 use Rattle.step.specs.Step.{Given, Rows, stepRefusal, madeOf, updatedGraph, passOf, rowsOf, stepped, answerOf, StepDone}
 use Rattle.step.specs.StepLaws.{code-order, rows-ready}
 use Rattle.step.specs.declared.answer.StepReport.{StepReport}

@@ -1,6 +1,6 @@
 pub mod Step
 pub mod DeterminedLaws
-pub mod Accepted
+pub mod AcceptedLaws
 pub mod StepLaws
 pub mod ShareLaws
 pub mod TestLaws

@@ -14,17 +14,17 @@ use Rattle.rules.specs.Update.{Updated}
 use Rattle.data_structures.specs.BitVec.{blocksOf, bitOf, bitAt}
 use Rattle.data_structures.specs.BitVecLaws.{blocks-hold}
 use Rattle.collider.specs.Recorded.{settingsOf}
-use Rattle.manifold_records.specs.Lists.{getD-map-upto, length-map-upto}
+use Rattle.manifold_records.specs.ListLaws.{getD-map-upto, length-map-upto}
 use Rattle.contact_range.specs.Recorded.{capacityOf}
 use Rattle.contact_update.specs.Contact.{updateOf}
-use Rattle.contact_update.specs.Order.{graphAfterAll}
+use Rattle.contact_update.specs.OrderLaws.{graphAfterAll}
 use Rattle.shares.specs.Shares.{workersOf, countOf, startOf, totalOf, entryAt}
 use Rattle.status_pass.specs.Pass.{begun, passWords}
 use Rattle.update_pass.specs.BitsLaws.{entries-active, part-bits}
 use Rattle.update_pass.specs.JoinLaws.{part-word}
 use Rattle.update_pass.specs.ListsLaws.{listedIn, share-room}
 use Rattle.update_pass.specs.Shared.{activeOf, entriesOf, firstOf, shareOf, workerBits, partsOf, distancesOf, recycledOf, standingIds}
-use Rattle.step.specs.Accepted.{Accepted}
+use Rattle.step.specs.AcceptedLaws.{Accepted}
 use Rattle.step.specs.Step.{Given, Rows, madeOf, passOf, rowsOf}
 
 -- ---- without the shares

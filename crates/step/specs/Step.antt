@@ -10,21 +10,26 @@ use Rattle.rules.specs.Inputs.{Inputs}
 use Rattle.rules.specs.Numbers.{every}
 use Rattle.rules.specs.Update.{Updated}
 use Rattle.data_structures.specs.BitVec.{blocksOf}
-use Rattle.collider.specs.Layout.{settingsLength, collidersLength, bodiesLength}
+use Rattle.rules.specs.Limits.{mostWorkers}
+use Rattle.layout.specs.Body.{bodiesLength}
+use Rattle.layout.specs.Change.{changesLength}
+use Rattle.layout.specs.Collider.{collidersLength}
+use Rattle.layout.specs.Event.{eventsLength}
+use Rattle.layout.specs.Proposal.{proposalSize}
+use Rattle.layout.specs.Settings.{settingsLength}
+use Rattle.layout.specs.Shares.{sharesLength}
 use Rattle.collider.specs.Range.{settingsFit, collidersFit, bodiesFit}
 use Rattle.collider.specs.Recorded.{settingsOf}
 use Rattle.contact_types.specs.Refusals.{numberOf}
 use Rattle.contact_range.specs.Range.{rightLength, inRange}
 use Rattle.contact_range.specs.Recorded.{capacityOf, listedCount, listedAt}
-use Rattle.proposals.specs.Layout.{proposalSize}
 use Rattle.proposals.specs.Range.{hookFits, proposalFits}
 use Rattle.contact_update.specs.After.{inputsOf}
 use Rattle.contact_update.specs.Contact.{updateOf}
-use Rattle.contact_update.specs.Order.{graphAfterAll}
-use Rattle.shares.specs.Layout.{mostWorkers, sharesLength}
+use Rattle.contact_update.specs.OrderLaws.{graphAfterAll}
 use Rattle.shares.specs.Shares.{sharesFit}
 use Rattle.status_pass.specs.Pass.{Passing, begun, passWords}
-use Rattle.status_pass.specs.EventsAndChanges.{eventsLength, eventWords, changesLength, changeWords}
+use Rattle.status_pass.specs.EventsAndChanges.{eventWords, changeWords}
 use Rattle.update_pass.specs.Shared.{activeOf, recycledOf, partsOf, standingIds, distancesOf, bitsLength}
 use Rattle.step.specs.declared.answer.StepReport.{StepReport}
 use Rattle.step.specs.declared.answer.StepAnswer.{StepAnswer}

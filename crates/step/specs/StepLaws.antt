@@ -17,21 +17,21 @@ use Rattle.words.specs.Words.{floatWord}
 use Rattle.data_structures.specs.BitVec.{blocksOf, setBits}
 use Rattle.data_structures.specs.NumberLaws.{numbers-pass, numbers-ascending, numbers-length}
 use Rattle.collider.specs.Recorded.{settingsOf}
-use Rattle.manifold_records.specs.Lists.{map-upto-same}
+use Rattle.manifold_records.specs.ListLaws.{map-upto-same}
 use Rattle.contact_range.specs.Checked.{Checked}
 use Rattle.contact_range.specs.Range.{stands}
 use Rattle.contact_range.specs.RangeLaws.{first-of}
 use Rattle.contact_range.specs.Recorded.{capacityOf, graphOf}
-use Rattle.contact_update.specs.Order.{graphAfterAll, any-order}
-use Rattle.contact_update.specs.UpdateFits.{FitSettings, settings-fit-read}
+use Rattle.contact_update.specs.OrderLaws.{graphAfterAll, any-order}
+use Rattle.contact_update.specs.UpdateFitLaws.{FitSettings, settings-fit-read}
 use Rattle.status_pass.specs.Pass.{begun, plainPass, PassReady, RowsReady}
 use Rattle.status_pass.specs.PassLaws.{pass-checked, pass-capacity, pass-means}
 use Rattle.update_pass.specs.BitsLaws.{entries-active, active-stands, standing-set}
 use Rattle.update_pass.specs.ListsLaws.{distances-any, recycled-any}
-use Rattle.update_pass.specs.Means.{standing-means, recycled-means, distance-means}
+use Rattle.update_pass.specs.MeaningLaws.{standing-means, recycled-means, distance-means}
 use Rattle.update_pass.specs.Shared.{activeOf, entriesOf, distancesAfter, distancesOf, recycledOf, joinedOf, standingIds}
-use Rattle.update_pass.specs.UpdatedAll.{AllReady, AllStand, after-ready, after-stands, after-all-capacity, all-means}
-use Rattle.step.specs.Accepted.{Accepted, accepted, all-ready}
+use Rattle.update_pass.specs.UpdatedAllLaws.{AllReady, AllStand, after-ready, after-stands, after-all-capacity, all-means}
+use Rattle.step.specs.AcceptedLaws.{Accepted, accepted, all-ready}
 use Rattle.step.specs.Step.{Given, Rows, stepRefusal, inputs, madeOf, updatedGraph, passOf}
 
 -- ---- the contacts whose status bit stands: contacts of the graph, each once, at most the capacity

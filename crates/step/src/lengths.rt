@@ -1,21 +1,19 @@
 // Refusal 1: the capacity, and the length of each lent row for it.
 ghost use mathlib.Core.Path.{_≡_};
 ghost use Prim.Native.Nat.{_≤_};
+ghost use Rattle.rules.specs.Limits.{mostContacts};
 ghost use Rattle.step.specs.Step.{given, rows, givenLong, rowsLong, lengthsFit};
-use contact_range::layout::number_at;
+use contact_range::places::number_at;
 use contact_range::range::right_length;
 use data_structures::bit_vec::blocks;
-use proposals::layout::PROPOSAL_SIZE;
-use shares::range::ENTRIES_PLACE;
-use shares::range::MOST_WORKERS;
-use status_pass::changes::CHANGE_SIZE;
-use status_pass::events::EVENT_SIZE;
-
-pub const SETTINGS_LENGTH: usize = 10;
-
-pub const COLLIDERS_LENGTH: usize = 5888;
-
-pub const BODIES_LENGTH: usize = 3328;
+use layout::body::BODIES_LENGTH;
+use layout::change::CHANGE_SIZE;
+use layout::collider::COLLIDERS_LENGTH;
+use layout::event::EVENT_SIZE;
+use layout::limits::MOST_WORKERS;
+use layout::proposal::PROPOSAL_SIZE;
+use layout::settings::SETTINGS_LENGTH;
+use layout::shares::SHARES_ENTRIES;
 
 // What is lent to read.
 fn given_long(
@@ -26,14 +24,14 @@ fn given_long(
     shares: &[u32],
     capacity: usize,
 ) -> bool
-    requires { ⌜ capacity ≤ 256 ⌝ }
+    requires { ⌜ capacity ≤ mostContacts ⌝ }
     ensures { λ r. ⌜ r ≡ givenLong (given (now (settings .entry)) (now (colliders .entry)) (now (bodies .entry)) (now (proposals .entry)) (now (shares .entry))) capacity ⌝ }
 {
     (settings.len() == SETTINGS_LENGTH)
         & ((colliders.len() == COLLIDERS_LENGTH)
             & ((bodies.len() == BODIES_LENGTH)
                 & ((proposals.len() == capacity * PROPOSAL_SIZE)
-                    & (shares.len() == ENTRIES_PLACE + capacity))))
+                    & (shares.len() == SHARES_ENTRIES + capacity))))
 }
 
 // What is lent to write, beside the graph.
@@ -44,7 +42,7 @@ fn rows_long(
     distances: &[u32],
     capacity: usize,
 ) -> bool
-    requires { ⌜ capacity ≤ 256 ⌝ }
+    requires { ⌜ capacity ≤ mostContacts ⌝ }
     ensures { λ r. ⌜ r ≡ rowsLong (rows (now (bits .entry)) (now (events .entry)) (now (changes .entry)) (now (distances .entry))) capacity ⌝ }
 {
     let count = blocks(capacity);

@@ -1,22 +1,24 @@
-// Refusals 2 and 6: every number that is read is in range, and no active pair's proposal is overfull.
+// Refusals 2 and 6: every number that is read is in range, and no active pair's proposal is too large.
 ghost use mathlib.Core.Path.{_≡_};
 ghost use mathlib.Core.Bool.{true};
 ghost use Prim.Native.Nat.{_*_};
 ghost use lib.ListN.{length};
-ghost use Rattle.collider.specs.Layout.{settingsLength, collidersLength, bodiesLength};
+ghost use Rattle.layout.specs.Body.{bodiesLength};
+ghost use Rattle.layout.specs.Collider.{collidersLength};
+ghost use Rattle.layout.specs.Proposal.{proposalSize};
+ghost use Rattle.layout.specs.Settings.{settingsLength};
 ghost use Rattle.contact_range.specs.Checked.{Checked};
 ghost use Rattle.contact_range.specs.Range.{rightLength};
 ghost use Rattle.contact_range.specs.Recorded.{capacityOf};
-ghost use Rattle.proposals.specs.Layout.{proposalSize};
 ghost use Rattle.step.specs.Step.{hooksFit, rowsInRange, proposalsFit};
 use collider::range::bodies_fit;
 use collider::range::colliders_fit;
 use collider::range::settings_fit;
-use contact_range::layout::LIST_PLACE;
-use contact_range::layout::LISTED_PLACE;
-use contact_range::layout::number_at;
+use contact_range::places::number_at;
 use contact_range::range::in_range;
-use proposals::layout::PROPOSAL_SIZE;
+use layout::graph::GRAPH_LIST;
+use layout::graph::GRAPH_LISTED;
+use layout::proposal::PROPOSAL_SIZE;
 use proposals::proposal::hook_fits;
 use proposals::proposal::proposal_fits;
 
@@ -25,10 +27,10 @@ fn hooks_fit(proposals: &[u32], graph: &[u32]) -> bool
     requires { ⌜ Checked (now graph) × (length (now proposals) ≡ capacityOf (now graph) * proposalSize) ⌝ }
     ensures { λ r. ⌜ r ≡ hooksFit (now (proposals .entry)) (now (graph .entry)) ⌝ }
 {
-    let listed = number_at(graph, LISTED_PLACE);
+    let listed = number_at(graph, GRAPH_LISTED);
     let mut p = 0;
     while p < listed {
-        let id = number_at(graph, LIST_PLACE + p);
+        let id = number_at(graph, GRAPH_LIST + p);
         if !hook_fits(proposals, id * PROPOSAL_SIZE) {
             return false;
         }
@@ -42,10 +44,10 @@ pub fn proposals_fit(proposals: &[u32], graph: &[u32]) -> bool
     requires { ⌜ Checked (now graph) × (length (now proposals) ≡ capacityOf (now graph) * proposalSize) ⌝ }
     ensures { λ r. ⌜ r ≡ proposalsFit (now (proposals .entry)) (now (graph .entry)) ⌝ }
 {
-    let listed = number_at(graph, LISTED_PLACE);
+    let listed = number_at(graph, GRAPH_LISTED);
     let mut p = 0;
     while p < listed {
-        let id = number_at(graph, LIST_PLACE + p);
+        let id = number_at(graph, GRAPH_LIST + p);
         if !proposal_fits(proposals, id * PROPOSAL_SIZE) {
             return false;
         }

@@ -7,9 +7,10 @@ use crate::lengths::lengths_fit;
 use crate::numbers::numbers_fit;
 use crate::numbers::proposals_fit;
 use collider::settings::load_settings;
-use contact_range::layout::number_at;
+use contact_range::places::number_at;
 use contact_types::refusal::Refusal;
 use data_structures::bit_vec::blocks;
+use layout::limits::MOST_CONTACTS;
 use shares::range::shares_fit;
 use status_pass::pass::pass;
 use update_pass::all::update_all;
@@ -43,7 +44,7 @@ fn step_accepted(
         bits,
         distances,
     );
-    let mut ids = [0u32; 256];
+    let mut ids = [0u32; MOST_CONTACTS];
     let n = standing(bits, count, &mut ids);
     let counts = pass(graph, events, changes, &ids, n);
     StepReport {
@@ -84,12 +85,12 @@ pub fn step(
     if !numbers_fit(settings, colliders, bodies, proposals, graph) {
         return StepAnswer::Refused(Refusal::OutOfRange);
     }
-    let overfull = !proposals_fit(proposals, graph);
-    let misshared = !shares_fit(shares, graph);
-    if overfull {
+    let too_large = !proposals_fit(proposals, graph);
+    let invalid = !shares_fit(shares, graph);
+    if too_large {
         return StepAnswer::Refused(Refusal::ProposalTooLarge);
     }
-    if misshared {
+    if invalid {
         return StepAnswer::Refused(Refusal::InvalidShares);
     }
     let report = step_accepted(

@@ -18,21 +18,21 @@ use Rattle.rules.specs.Update.{isRecycled, Updated}
 use Rattle.words.specs.Words.{floatWord}
 use Rattle.data_structures.specs.BitVec.{blocksOf, cleared, marked}
 use Rattle.data_structures.specs.BitVecLaws.{blocks-hold}
-use Rattle.manifold_records.specs.Lists.{getD-map-upto, length-map-upto, length-zeros}
+use Rattle.manifold_records.specs.ListLaws.{getD-map-upto, length-map-upto, length-zeros}
 use Rattle.manifold_records.specs.Written.{zeros}
 use Rattle.contact_range.specs.Range.{stands}
 use Rattle.contact_range.specs.Recorded.{capacityOf}
 use Rattle.contact_update.specs.After.{graphAfter}
 use Rattle.contact_update.specs.Contact.{updateOf}
-use Rattle.contact_update.specs.Order.{graphAfterAll}
-use Rattle.shares.specs.Layout.{sharesLength}
+use Rattle.contact_update.specs.OrderLaws.{graphAfterAll}
+use Rattle.layout.specs.Shares.{sharesLength}
 use Rattle.shares.specs.Shares.{workersOf, countOf, startOf, totalOf, entryAt}
 use Rattle.update_pass.specs.BitsLaws.{length-part-bits, past-share}
 use Rattle.update_pass.specs.ListsLaws.{start-within, entries-split, distances-append, recycled-append, recycled-most, length-distances-after}
 use Rattle.update_pass.specs.Share.{AllListed, ShareReady, made, Taken, ShareTaken, SharesReady, AllTaken}
 use Rattle.update_pass.specs.Shared.{entriesOf, firstOf, shareOf, bitsAfter, distancesAfter, recycledOf, workerBits, partsOf}
 use Rattle.update_pass.specs.ShareLaws.{within}
-use Rattle.update_pass.specs.UpdatedAll.{AllStand, after-ready, after-stands, after-all-capacity, unaffected}
+use Rattle.update_pass.specs.UpdatedAllLaws.{AllStand, after-ready, after-stands, after-all-capacity, unaffected}
 
 -- ---- what is made of a list's contacts decides what is left
 module _ (u v : ℕ → Updated) where

@@ -16,7 +16,7 @@ use Rattle.data_structures.specs.BitVec.{blocksOf, bitOf, bitAt, marked, number
 use Rattle.data_structures.specs.BitVecLaws.{blocks-hold, length-joined, bit-joined, bit-marked}
 use Rattle.data_structures.specs.NumberLaws.{numbers-same, numbers-append, numbers-none}
 use Rattle.data_structures.specs.WordLaws.{bit-zero}
-use Rattle.manifold_records.specs.Lists.{getD-map-upto, length-map-upto, length-zeros}
+use Rattle.manifold_records.specs.ListLaws.{getD-map-upto, length-map-upto, length-zeros}
 use Rattle.manifold_records.specs.Written.{zeros}
 use Rattle.contact_range.specs.Checked.{Checked}
 use Rattle.contact_range.specs.Range.{stands}

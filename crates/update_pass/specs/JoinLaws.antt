@@ -14,7 +14,7 @@ use Rattle.rows.specs.Laws.{length-part, getD-part}
 use Rattle.rules.specs.Update.{Updated}
 use Rattle.data_structures.specs.BitVec.{joined, Visited}
 use Rattle.data_structures.specs.BitVecLaws.{length-joined}
-use Rattle.manifold_records.specs.Lists.{length-zeros}
+use Rattle.manifold_records.specs.ListLaws.{length-zeros}
 use Rattle.manifold_records.specs.Written.{zeros}
 use Rattle.contact_update.specs.ContactLaws.{lent-part}
 use Rattle.update_pass.specs.AllLaws.{length-parts}

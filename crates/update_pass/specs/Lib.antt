@@ -1,8 +1,8 @@
 pub mod Shared
 pub mod ListsLaws
 pub mod BitsLaws
-pub mod UpdatedAll
-pub mod Means
+pub mod UpdatedAllLaws
+pub mod MeaningLaws
 pub mod Share
 pub mod ShareLaws
 pub mod AllLaws

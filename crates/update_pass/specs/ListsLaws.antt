@@ -18,10 +18,10 @@ use Rattle.rules.specs.Update.{isRecycled, Updated}
 use Rattle.words.specs.Words.{floatWord}
 use Rattle.data_structures.specs.BitVec.{marked}
 use Rattle.data_structures.specs.BitVecLaws.{length-marked}
-use Rattle.manifold_records.specs.Lists.{getD-map-upto, length-map-upto}
+use Rattle.manifold_records.specs.ListLaws.{getD-map-upto, length-map-upto}
 use Rattle.contact_range.specs.Range.{stands}
 use Rattle.contact_range.specs.Recorded.{capacityOf}
-use Rattle.shares.specs.Counting.{sum}
+use Rattle.shares.specs.CountingLaws.{sum}
 use Rattle.shares.specs.Shares.{workersOf, countOf, startOf, totalOf, entryAt}
 use Rattle.update_pass.specs.Shared.{bitsAfter, distancesAfter, distancesOf, recycledOf, firstOf}
 

@@ -12,12 +12,13 @@ use Rattle.manifold_records.specs.Written.{zeros}
 use Rattle.contact_range.specs.Range.{stands}
 use Rattle.contact_range.specs.Recorded.{capacityOf}
 use Rattle.contact_update.specs.Contact.{updateOf}
-use Rattle.contact_update.specs.Order.{graphAfterAll}
-use Rattle.contact_update.specs.UpdateFits.{FitSettings}
-use Rattle.shares.specs.Layout.{mostWorkers, sharesLength}
+use Rattle.contact_update.specs.OrderLaws.{graphAfterAll}
+use Rattle.contact_update.specs.UpdateFitLaws.{FitSettings}
+use Rattle.rules.specs.Limits.{mostWorkers}
+use Rattle.layout.specs.Shares.{sharesLength}
 use Rattle.shares.specs.Shares.{workersOf, countOf, totalOf, entryAt}
 use Rattle.update_pass.specs.Shared.{entriesOf, firstOf, bitsAfter, distancesAfter, recycledOf, partsOf, bitsLength}
-use Rattle.update_pass.specs.UpdatedAll.{AllReady}
+use Rattle.update_pass.specs.UpdatedAllLaws.{AllReady}
 
 module _ (s : Settings) (colliders bodies proposals shares : List ℕ) where
   -- every contact can be updated; what is listed stands, and stands once

@@ -13,18 +13,18 @@ use Rattle.rules.specs.Update.{isRecycled, Updated}
 use Rattle.words.specs.Words.{wordAt, floatWord}
 use Rattle.data_structures.specs.BitVec.{marked}
 use Rattle.data_structures.specs.BitVecLaws.{blocks-hold}
-use Rattle.manifold_records.specs.Lists.{map-upto-next, getD-map-upto, length-map-upto}
+use Rattle.manifold_records.specs.ListLaws.{map-upto-next, getD-map-upto, length-map-upto}
 use Rattle.contact_range.specs.Range.{stands}
 use Rattle.contact_range.specs.RangeLaws.{standing-below}
 use Rattle.contact_range.specs.Recorded.{capacityOf}
 use Rattle.contact_update.specs.After.{graphAfter}
 use Rattle.contact_update.specs.Contact.{ContactReady, ContactUpdated, updateOf}
-use Rattle.contact_update.specs.Order.{graphAfterAll}
+use Rattle.contact_update.specs.OrderLaws.{graphAfterAll}
 use Rattle.shares.specs.Shares.{workersOf, countOf, startOf, totalOf, entryAt}
 use Rattle.update_pass.specs.ListsLaws.{start-within, bits-next, distances-next, recycled-next, length-bits-after, length-distances-after, recycled-most}
 use Rattle.update_pass.specs.Share.{AllListed, ShareReady, made, Taken}
 use Rattle.update_pass.specs.Shared.{firstOf, bitsAfter, distancesAfter, recycledOf}
-use Rattle.update_pass.specs.UpdatedAll.{AllStand, after-all-next, after-ready, after-stands, after-all-capacity, unaffected}
+use Rattle.update_pass.specs.UpdatedAllLaws.{AllStand, after-all-next, after-ready, after-stands, after-all-capacity, unaffected}
 
 module _ (s : Settings) (colliders bodies proposals shares : List ℕ) {g : List ℕ} (a : AllListed s colliders bodies proposals shares g) (w : ℕ) (given : w < workersOf shares) where
   abbrev idAt : ℕ → ℕ

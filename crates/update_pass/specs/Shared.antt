@@ -12,7 +12,7 @@ use Rattle.data_structures.specs.BitVec.{blocksOf, marked, joined, numbersWith}
 use Rattle.manifold_records.specs.Written.{zeros}
 use Rattle.contact_range.specs.Range.{stands}
 use Rattle.contact_range.specs.Recorded.{capacityOf, listedCount, listedAt}
-use Rattle.shares.specs.Layout.{mostWorkers}
+use Rattle.rules.specs.Limits.{mostWorkers}
 use Rattle.shares.specs.Shares.{workersOf, countOf, startOf, totalOf, entryAt}
 
 -- the contacts of the list, in its order

@@ -3,11 +3,13 @@ ghost use Rattle.collider.specs.Views.{plainSettings};
 ghost use Rattle.update_pass.specs.Share.{SharesReady, AllTaken};
 use crate::share::update_share;
 use collider::settings::Settings;
-use contact_range::layout::number_at;
+use contact_range::places::number_at;
 use data_structures::bit_vec::blocks;
 use data_structures::bit_vec::clear;
+use layout::graph::GRAPH_CAPACITY;
+use layout::limits::MOST_WORKERS;
+use layout::shares::SHARES_WORKERS;
 use manifold_records::zeros::store_zeros;
-use shares::range::MOST_WORKERS;
 
 // Every part is cleared first, and every distance. Answers how many contacts were recycled.
 pub fn update_all(
@@ -23,9 +25,9 @@ pub fn update_all(
     requires { ⌜ SharesReady (plainSettings s) (now colliders) (now bodies) (now proposals) (now shares) (now graph) (now bits) (now distances) ⌝ }
     ensures { λ r. ⌜ AllTaken (plainSettings s) (now (colliders .entry)) (now (bodies .entry)) (now (proposals .entry)) (now (shares .entry)) (now (graph .entry)) (now (graph .exit)) (now (bits .exit)) (now (distances .exit)) r ⌝ }
 {
-    let capacity = number_at(graph, 0);
+    let capacity = number_at(graph, GRAPH_CAPACITY);
     let count = blocks(capacity);
-    let workers = number_at(shares, 0);
+    let workers = number_at(shares, SHARES_WORKERS);
     let end = MOST_WORKERS * count;
     let parts = &mut bits[0..end];
     clear(parts);

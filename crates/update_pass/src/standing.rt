@@ -4,15 +4,18 @@ ghost use Prim.Native.Nat.{_*_, _≤_};
 ghost use lib.ListN.{length};
 ghost use Rattle.manifold_records.specs.Written.{zeros};
 ghost use Rattle.data_structures.specs.BitVec.{Visited};
+ghost use Rattle.layout.specs.Bits.{mostBlocks};
+ghost use Rattle.rules.specs.Limits.{mostContacts, mostWorkers};
 ghost use Rattle.update_pass.specs.Share.{joinedParts};
 use data_structures::bit_vec::ones;
 use data_structures::bit_vec::or;
-use shares::range::MOST_WORKERS;
+use layout::bits::MOST_BLOCKS;
+use layout::limits::MOST_WORKERS;
 
 // The parts are not written back.
 fn join(bits: &[u64], joined: &mut [u64], count: usize)
-    requires { ⌜ (length (now bits) ≡ 8 * count) × (count ≤ 4) × (now joined ≡ zeros count) ⌝ }
-    ensures { λ _. ⌜ now (joined .exit) ≡ joinedParts count (now (bits .entry)) 8 ⌝ }
+    requires { ⌜ (length (now bits) ≡ mostWorkers * count) × (count ≤ mostBlocks) × (now joined ≡ zeros count) ⌝ }
+    ensures { λ _. ⌜ now (joined .exit) ≡ joinedParts count (now (bits .entry)) mostWorkers ⌝ }
 {
     let mut w = 0;
     while w < MOST_WORKERS {
@@ -26,10 +29,10 @@ fn join(bits: &[u64], joined: &mut [u64], count: usize)
 
 // Written to ids from its start. Answers how many there are.
 pub fn standing(bits: &[u64], count: usize, ids: &mut [u32]) -> usize
-    requires { ⌜ (length (now bits) ≡ 8 * count) × (count ≤ 4) × (length (now ids) ≡ 256) ⌝ }
-    ensures { λ r. ⌜ Visited (joinedParts count (now (bits .entry)) 8) (now (ids .entry)) (now (ids .exit)) r ⌝ }
+    requires { ⌜ (length (now bits) ≡ mostWorkers * count) × (count ≤ mostBlocks) × (length (now ids) ≡ mostContacts) ⌝ }
+    ensures { λ r. ⌜ Visited (joinedParts count (now (bits .entry)) mostWorkers) (now (ids .entry)) (now (ids .exit)) r ⌝ }
 {
-    let mut words = [0u64; 4];
+    let mut words = [0u64; MOST_BLOCKS];
     let joined = &mut words[0..count];
     join(bits, joined, count);
     ones(joined, ids)

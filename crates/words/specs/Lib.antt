@@ -1,3 +1,3 @@
 pub mod Words
 pub mod WordLaws
-pub mod Stored
+pub mod StoredLaws

@@ -1,6 +1,7 @@
 -- Numbers, floats, vectors and quaternions as words, and back. Definitions only.
 -- All are `abbrev`: a value's words are a list that computes, so that lengths and places in it compute.
 use Prim.Native.Nat.{ℕ, _+_}
+use mathlib.Core.Bool.{Bool, cond}
 use mathlib.Core.List.{List, [], _∷_}
 use lib.ListN.{getD}
 use lib.Ieee.{Float, binary32, ofBits, toBits}
@@ -22,6 +23,9 @@ abbrev pub quatAt : List ℕ → ℕ → Quat
 quatAt xs at = record { x = floatAt xs at; y = floatAt xs (at + 1); z = floatAt xs (at + 2); w = floatAt xs (at + 3) }
 
 -- ---- to words
+
+abbrev pub markWord : Bool → ℕ
+markWord b = cond b 1 0
 
 abbrev pub floatWord : Float → ℕ
 floatWord x = toBits binary32 x

@@ -1,10 +1,10 @@
-// One word, a word that is a float's bit pattern, and a run of words.
+// One word, a word that is a mark or a float's bit pattern, and a run of words.
 ghost use mathlib.Core.Path.{_≡_};
 ghost use mathlib.Core.List.{[], _∷_};
 ghost use Prim.Native.Nat.{_+_, _≤_, _<_};
 ghost use lib.ListN.{length};
 ghost use Rattle.rows.specs.Rows.{part, put};
-ghost use Rattle.words.specs.Words.{wordAt, floatAt, floatWord};
+ghost use Rattle.words.specs.Words.{wordAt, floatAt, markWord, floatWord};
 use math::bits::bits_of;
 use math::bits::float_of;
 
@@ -20,6 +20,13 @@ pub fn load_float(g: &[u32], at: usize) -> f32
     ensures { λ r. ⌜ r ≡ floatAt (now (g .entry)) at ⌝ }
 {
     float_of(g[at])
+}
+
+// A mark's word: 1 for what holds.
+pub fn mark_word(b: bool) -> u32
+    ensures { λ r. ⌜ r ≡ markWord b ⌝ }
+{
+    if b { 1 } else { 0 }
 }
 
 pub fn store_word(g: &mut [u32], at: usize, w: u32)

@@ -1,6 +1,6 @@
 -- `collider::body_record::load_present_body` meets its contract. Assumes nothing.
 use borrow.Author.Needs.{needs}
-use Rattle.collider.specs.Loaded.{body-loaded}
+use Rattle.collider.specs.LoadedLaws.{body-loaded}
 use Rattle.collider.proofs.body_record.load_present_body.Statement.{statement}
 use Rattle.collider.proofs.body_record.load_present_body.Tie as tie
 

@@ -1,6 +1,6 @@
 -- `collider::collider_record::load_present_collider` meets its contract. Assumes nothing.
 use borrow.Author.Needs.{needs}
-use Rattle.collider.specs.Loaded.{collider-loaded}
+use Rattle.collider.specs.LoadedLaws.{collider-loaded}
 use Rattle.collider.proofs.collider_record.load_present_collider.Statement.{statement}
 use Rattle.collider.proofs.collider_record.load_present_collider.Tie as tie
 

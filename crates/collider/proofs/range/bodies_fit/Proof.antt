@@ -8,7 +8,7 @@ use Rattle.rule_laws.specs.NumberLaws.{every-next, every-fails}
 use Rattle.rules.specs.Numbers.{every}
 use Rattle.rules.specs.Limits.{bodies}
 use Rattle.collider.specs.Range.{bodyFits, bodiesFit}
-use Rattle.collider.specs.Layout.{bodySize}
+use Rattle.layout.specs.Body.{bodySize}
 use Rattle.collider.proofs.range.bodies_fit.Statement.{statement}
 use Rattle.collider.proofs.range.bodies_fit.Tie as tie
 

@@ -1,7 +1,7 @@
 -- `collider::range::collider_fits` meets its contract. Assumes nothing.
 use mathlib.Core.Path.{_∙_}
 use borrow.Author.Needs.{needs}
-use Rattle.collider.specs.RangeSteps.{where-one, where-other, collider-fits-whole}
+use Rattle.collider.specs.RangeStepLaws.{where-one, where-other, collider-fits-whole}
 use Rattle.collider.proofs.range.collider_fits.Statement.{statement}
 use Rattle.collider.proofs.range.collider_fits.Tie as tie
 

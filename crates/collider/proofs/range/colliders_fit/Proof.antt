@@ -8,7 +8,7 @@ use Rattle.rule_laws.specs.NumberLaws.{every-next, every-fails}
 use Rattle.rules.specs.Numbers.{every}
 use Rattle.rules.specs.Limits.{colliders}
 use Rattle.collider.specs.Range.{colliderFits, collidersFit}
-use Rattle.collider.specs.Layout.{colliderSize}
+use Rattle.layout.specs.Collider.{colliderSize}
 use Rattle.collider.proofs.range.colliders_fit.Statement.{statement}
 use Rattle.collider.proofs.range.colliders_fit.Tie as tie
 

@@ -1,7 +1,7 @@
 -- `collider::range::settings_fit` meets its contract. Assumes nothing.
 use borrow.Author.Needs.{needs}
 use Rattle.collider.specs.Range.{settingsFit}
-use Rattle.collider.specs.Tests.{passes, fails}
+use Rattle.collider.specs.TestLaws.{passes, fails}
 use Rattle.collider.proofs.range.settings_fit.Statement.{statement}
 use Rattle.collider.proofs.range.settings_fit.Tie as tie
 

@@ -1,7 +1,7 @@
 -- `collider::range::where_set` meets its contract. Assumes nothing.
 use mathlib.Core.Path.{sym, _∙_}
 use borrow.Author.Tests.{ne-eqb}
-use Rattle.collider.specs.RangeSteps.{where-none, where-one, where-other}
+use Rattle.collider.specs.RangeStepLaws.{where-none, where-one, where-other}
 use Rattle.collider.proofs.range.where_set.Statement.{statement}
 use Rattle.collider.proofs.range.where_set.Tie as tie
 

@@ -1,6 +1,6 @@
 -- `collider::settings::load_settings` meets its contract. Assumes nothing.
 use borrow.Author.Needs.{needs}
-use Rattle.collider.specs.Loaded.{settings-loaded}
+use Rattle.collider.specs.LoadedLaws.{settings-loaded}
 use Rattle.collider.proofs.settings.load_settings.Statement.{statement}
 use Rattle.collider.proofs.settings.load_settings.Tie as tie
 

@@ -2,7 +2,7 @@
 use borrow.Author.Needs.{needs}
 use borrow.Author.Tests.{eq-eqb, ne-eqb, lt-ltb, le-ltb}
 use Rattle.contact_graph.specs.Calls.{requestFits}
-use Rattle.contact_range.specs.RangeSteps.{refused, passed}
+use Rattle.contact_range.specs.RangeStepLaws.{refused, passed}
 use Rattle.contact_graph.proofs.add.request_fits.Statement.{statement}
 use Rattle.contact_graph.proofs.add.request_fits.Tie as tie
 

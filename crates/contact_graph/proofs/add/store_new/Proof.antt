@@ -3,7 +3,7 @@ use mathlib.Core.Path.{_≡_, refl, ap, _∙_}
 use borrow.Author.Needs.{needs}
 use Rattle.rows.specs.Rows.{put}
 use Rattle.manifold_records.specs.Written.{zeros}
-use Rattle.contact_records.specs.New.{length-new}
+use Rattle.contact_records.specs.NewLaws.{length-new}
 use Rattle.contact_graph.specs.AddLaws.{stored-over}
 use Rattle.contact_graph.proofs.add.store_new.Statement.{statement}
 use Rattle.contact_graph.proofs.add.store_new.Tie as tie

@@ -4,8 +4,8 @@ use mathlib.Core.List.{List}
 use Prim.Native.Nat.{ℕ, _≤_, _-_}
 use borrow.Author.Needs.{needs}
 use lib.ListN.{length, length-set}
-use Rattle.rows.specs.Arrays.{front, front-all, front-step}
-use Rattle.contact_graph.specs.Zeros.{zeros-map}
+use Rattle.rows.specs.ArrayLaws.{front, front-all, front-step}
+use Rattle.contact_graph.specs.ZeroLaws.{zeros-map}
 use Rattle.contact_graph.proofs.lay_out.clear.Statement.{statement}
 use Rattle.contact_graph.proofs.lay_out.clear.Tie as tie
 

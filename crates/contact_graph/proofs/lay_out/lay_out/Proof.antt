@@ -2,7 +2,7 @@
 use mathlib.Core.Path.{sym, ap, _∙_}
 use borrow.Author.Needs.{needs}
 use lib.ListN.{length, length-set}
-use Rattle.manifold_records.specs.Lists.{length-zeros}
+use Rattle.manifold_records.specs.ListLaws.{length-zeros}
 use Rattle.contact_graph.specs.LayOutLaws.{lay-out-none, lay-out-many, lay-out-length, lay-out-done, laid-out, lay-out-refused, lay-out-kept}
 use Rattle.contact_graph.proofs.lay_out.lay_out.Statement.{statement}
 use Rattle.contact_graph.proofs.lay_out.lay_out.Tie as tie

@@ -3,7 +3,7 @@ use borrow.Author.Needs.{needs}
 use Rattle.contact_graph.specs.CallLaws.{checked}
 use Rattle.contact_graph.specs.LookUpLaws.{look-up-length, look-up-range, look-up-none, look-up-found}
 use Rattle.contact_range.specs.RangeLaws.{standing-below}
-use Rattle.contact_range.specs.RangeSteps.{refused, passed}
+use Rattle.contact_range.specs.RangeStepLaws.{refused, passed}
 use Rattle.contact_graph.proofs.look_up.look_up.Statement.{statement}
 use Rattle.contact_graph.proofs.look_up.look_up.Tie as tie
 

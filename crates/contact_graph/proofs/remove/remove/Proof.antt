@@ -1,7 +1,7 @@
 -- `contact_graph::remove::remove` meets its contract: the tests in their order, then the removal. Assumes nothing.
 use borrow.Author.Needs.{needs}
 use Rattle.contact_graph.specs.CallLaws.{checked, remove-refused-length, remove-refused-range, remove-refused-none, remove-kept}
-use Rattle.contact_range.specs.RangeSteps.{refused, passed}
+use Rattle.contact_range.specs.RangeStepLaws.{refused, passed}
 use Rattle.contact_graph.proofs.remove.remove.Statement.{statement}
 use Rattle.contact_graph.proofs.remove.remove.Tie as tie
 

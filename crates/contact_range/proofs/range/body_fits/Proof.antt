@@ -3,7 +3,7 @@ use mathlib.Core.Path.{ap}
 use Prim.Native.Nat.{ℕ}
 use borrow.Author.Tests.{lt-ltb, eq-eqb, ne-eqb}
 use lib.Dec.{ltb}
-use Rattle.contact_range.specs.RangeSteps.{not-below}
+use Rattle.contact_range.specs.RangeStepLaws.{not-below}
 use borrow.Author.Needs.{needs}
 use Rattle.contact_range.proofs.range.body_fits.Statement.{statement}
 use Rattle.contact_range.proofs.range.body_fits.Tie as tie

@@ -1,5 +1,5 @@
 -- `contact_range::range::contact_fits` meets its contract: each test in its turn. Assumes nothing.
-use Rattle.contact_range.specs.RangeSteps.{refused, passed}
+use Rattle.contact_range.specs.RangeStepLaws.{refused, passed}
 use Rattle.contact_range.specs.Range.{contactFits}
 use borrow.Author.Needs.{needs}
 use Rattle.contact_range.proofs.range.contact_fits.Statement.{statement}

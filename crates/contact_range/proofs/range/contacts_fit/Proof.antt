@@ -8,7 +8,7 @@ use Rattle.rules.specs.Numbers.{every}
 use Rattle.rule_laws.specs.NumberLaws.{every-next, every-fails}
 use Rattle.contact_range.specs.Recorded.{listedAt, listedCount, contactAt}
 use Rattle.contact_range.specs.Range.{contactFits, contactsFit}
-use Rattle.contact_range.specs.RangeSteps.{refused, passed, below-at, place-read, every-none, every-done}
+use Rattle.contact_range.specs.RangeStepLaws.{refused, passed, below-at, place-read, every-none, every-done}
 use borrow.Author.Needs.{needs}
 use Rattle.contact_range.proofs.range.contacts_fit.Statement.{statement}
 use Rattle.contact_range.proofs.range.contacts_fit.Tie as tie

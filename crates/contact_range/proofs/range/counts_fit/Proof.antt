@@ -1,5 +1,5 @@
 -- `contact_range::range::counts_fit` meets its contract: each count in its turn. Assumes nothing.
-use Rattle.contact_range.specs.RangeSteps.{within, above}
+use Rattle.contact_range.specs.RangeStepLaws.{within, above}
 use Rattle.contact_range.specs.Range.{countsFit}
 use borrow.Author.Needs.{needs}
 use Rattle.contact_range.proofs.range.counts_fit.Statement.{statement}

@@ -9,7 +9,7 @@ use Rattle.rule_laws.specs.NumberLaws.{every-next, every-fails}
 use Rattle.contact_range.specs.Recorded.{freeAt, freeCount}
 use Rattle.contact_range.specs.Range.{stands, freeApart}
 use Rattle.contact_range.specs.RangeLaws.{freed-at}
-use Rattle.contact_range.specs.RangeSteps.{every-none, every-done}
+use Rattle.contact_range.specs.RangeStepLaws.{every-none, every-done}
 use borrow.Author.Needs.{needs}
 use Rattle.contact_range.proofs.range.free_apart.Statement.{statement}
 use Rattle.contact_range.proofs.range.free_apart.Tie as tie

@@ -9,7 +9,7 @@ use Rattle.rules.specs.Numbers.{every}
 use Rattle.rule_laws.specs.NumberLaws.{every-next, every-fails}
 use Rattle.contact_range.specs.Recorded.{freeAt, givenOf, freeCount}
 use Rattle.contact_range.specs.Range.{freeGiven}
-use Rattle.contact_range.specs.RangeSteps.{every-none, every-done}
+use Rattle.contact_range.specs.RangeStepLaws.{every-none, every-done}
 use borrow.Author.Needs.{needs}
 use Rattle.contact_range.proofs.range.free_given.Statement.{statement}
 use Rattle.contact_range.proofs.range.free_given.Tie as tie

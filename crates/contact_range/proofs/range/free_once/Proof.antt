@@ -11,7 +11,7 @@ use Rattle.rule_laws.specs.NumberLaws.{every-next, every-fails}
 use Rattle.contact_range.specs.Recorded.{freeAt, freeCount}
 use Rattle.contact_range.specs.Range.{freeOnce}
 use Rattle.contact_range.specs.RangeLaws.{freed-at}
-use Rattle.contact_range.specs.RangeSteps.{Marked, marked-none, seen, marks-next, marks-size, free-taken, every-none, every-done}
+use Rattle.contact_range.specs.RangeStepLaws.{Marked, marked-none, seen, marks-next, marks-size, free-taken, every-none, every-done}
 use borrow.Author.Needs.{needs}
 use Rattle.contact_range.proofs.range.free_once.Statement.{statement}
 use Rattle.contact_range.proofs.range.free_once.Tie as tie

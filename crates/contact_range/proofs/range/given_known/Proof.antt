@@ -7,7 +7,7 @@ use Rattle.rules.specs.Numbers.{every}
 use Rattle.rule_laws.specs.NumberLaws.{every-next, every-fails}
 use Rattle.contact_range.specs.Recorded.{givenOf}
 use Rattle.contact_range.specs.Range.{stands, isFree, givenKnown}
-use Rattle.contact_range.specs.RangeSteps.{refused, passed, every-none, every-done}
+use Rattle.contact_range.specs.RangeStepLaws.{refused, passed, every-none, every-done}
 use borrow.Author.Needs.{needs}
 use Rattle.contact_range.proofs.range.given_known.Statement.{statement}
 use Rattle.contact_range.proofs.range.given_known.Tie as tie

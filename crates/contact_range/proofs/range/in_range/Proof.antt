@@ -1,6 +1,6 @@
 -- `contact_range::range::in_range` meets its contract: each part in its turn, and what it shows for the later ones. Assumes nothing.
 use Rattle.contact_range.specs.RangeLaws.{right-length}
-use Rattle.contact_range.specs.RangeSteps.{refused, passed, in-range-parts, listed-standing, contacts-known}
+use Rattle.contact_range.specs.RangeStepLaws.{refused, passed, in-range-parts, listed-standing, contacts-known}
 use Rattle.contact_range.proofs.range.in_range.Statement.{statement}
 use Rattle.contact_range.proofs.range.in_range.Tie as tie
 

@@ -1,5 +1,5 @@
 -- `contact_range::range::is_standing` meets its contract: the record says where the list names the id. Assumes nothing.
-use Rattle.contact_range.specs.RangeSteps.{index-of, standing-past, standing-read}
+use Rattle.contact_range.specs.RangeStepLaws.{index-of, standing-past, standing-read}
 use borrow.Author.Needs.{needs}
 use Rattle.contact_range.proofs.range.is_standing.Statement.{statement}
 use Rattle.contact_range.proofs.range.is_standing.Tie as tie

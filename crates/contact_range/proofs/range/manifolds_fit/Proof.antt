@@ -8,7 +8,7 @@ use lib.Dec.{leb}
 use Rattle.words.specs.Words.{wordAt}
 use Rattle.rules.specs.Numbers.{every}
 use Rattle.rule_laws.specs.NumberLaws.{every-next, every-fails}
-use Rattle.contact_range.specs.RangeSteps.{within, above, every-none, every-done}
+use Rattle.contact_range.specs.RangeStepLaws.{within, above, every-none, every-done}
 use Rattle.contact_range.specs.Range.{manifoldsFit}
 use borrow.Author.Needs.{needs}
 use Rattle.contact_range.proofs.range.manifolds_fit.Statement.{statement}

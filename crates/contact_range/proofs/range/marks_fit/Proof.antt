@@ -7,7 +7,7 @@ use lib.Dec.{ltb}
 use Rattle.words.specs.Words.{wordAt}
 use Rattle.rules.specs.Numbers.{every}
 use Rattle.rule_laws.specs.NumberLaws.{every-next, every-fails}
-use Rattle.contact_range.specs.RangeSteps.{below, not-below, every-none, every-done}
+use Rattle.contact_range.specs.RangeStepLaws.{below, not-below, every-none, every-done}
 use Rattle.contact_range.specs.Range.{isMark, marksFit}
 use borrow.Author.Needs.{needs}
 use Rattle.contact_range.proofs.range.marks_fit.Statement.{statement}

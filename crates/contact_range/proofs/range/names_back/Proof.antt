@@ -11,7 +11,7 @@ use Rattle.rule_laws.specs.NumberLaws.{every-next, every-fails}
 use Rattle.contact_range.specs.Recorded.{listedAt, listedCount}
 use Rattle.contact_range.specs.Range.{namesBack}
 use Rattle.contact_range.specs.RangeLaws.{indexAt}
-use Rattle.contact_range.specs.RangeSteps.{below-at, index-read, every-none, every-done}
+use Rattle.contact_range.specs.RangeStepLaws.{below-at, index-read, every-none, every-done}
 use borrow.Author.Needs.{needs}
 use Rattle.contact_range.proofs.range.names_back.Statement.{statement}
 use Rattle.contact_range.proofs.range.names_back.Tie as tie

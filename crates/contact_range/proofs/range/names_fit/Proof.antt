@@ -1,5 +1,5 @@
 -- `contact_range::range::names_fit` meets its contract: each test in its turn. Assumes nothing.
-use Rattle.contact_range.specs.RangeSteps.{refused, passed, below, not-below}
+use Rattle.contact_range.specs.RangeStepLaws.{refused, passed, below, not-below}
 use Rattle.contact_range.specs.Range.{namesFit}
 use borrow.Author.Needs.{needs}
 use Rattle.contact_range.proofs.range.names_fit.Statement.{statement}

@@ -9,7 +9,7 @@ use Rattle.rules.specs.Numbers.{every}
 use Rattle.rule_laws.specs.NumberLaws.{every-next, every-fails}
 use Rattle.contact_range.specs.Recorded.{listedCount}
 use Rattle.contact_range.specs.Range.{samePair, pairsOnce}
-use Rattle.contact_range.specs.RangeSteps.{Marked, placeNumber, below-at, colliders-read, number-read, place-below, pair-seen, marked-none, marks-next, marks-size, every-none, every-done}
+use Rattle.contact_range.specs.RangeStepLaws.{Marked, placeNumber, below-at, colliders-read, number-read, place-below, pair-seen, marked-none, marks-next, marks-size, every-none, every-done}
 use borrow.Author.Needs.{needs}
 use Rattle.contact_range.proofs.range.pairs_differ.Statement.{statement}
 use Rattle.contact_range.proofs.range.pairs_differ.Tie as tie

@@ -1,6 +1,6 @@
 -- `contact_range::range::pairs_once` meets its contract. Assumes nothing.
 use mathlib.Core.Path.{refl}
-use Rattle.contact_range.specs.RangeSteps.{allZero, unmarked}
+use Rattle.contact_range.specs.RangeStepLaws.{allZero, unmarked}
 use borrow.Author.Needs.{needs}
 use Rattle.contact_range.proofs.range.pairs_once.Statement.{statement}
 use Rattle.contact_range.proofs.range.pairs_once.Tie as tie

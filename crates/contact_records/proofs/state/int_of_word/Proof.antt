@@ -1,5 +1,5 @@
 -- `contact_records::state::int_of_word` meets its contract. Assumes nothing.
-use Rattle.contact_records.specs.Ints.{lower, upper, upper-fits}
+use Rattle.contact_records.specs.IntLaws.{lower, upper, upper-fits}
 use borrow.Author.Needs.{needs}
 use Rattle.contact_records.proofs.state.int_of_word.Statement.{statement}
 use Rattle.contact_records.proofs.state.int_of_word.Tie as tie

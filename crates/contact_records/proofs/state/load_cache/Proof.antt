@@ -1,5 +1,5 @@
 -- `contact_records::state::load_cache` meets its contract. Assumes nothing.
-use Rattle.contact_records.specs.Made.{cache-loaded, cache-none}
+use Rattle.contact_records.specs.MadeLaws.{cache-loaded, cache-none}
 use borrow.Author.Needs.{needs}
 use Rattle.contact_records.proofs.state.load_cache.Statement.{statement}
 use Rattle.contact_records.proofs.state.load_cache.Tie as tie

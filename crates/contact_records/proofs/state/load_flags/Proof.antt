@@ -1,5 +1,5 @@
 -- `contact_records::state::load_flags` meets its contract. Assumes nothing.
-use Rattle.contact_records.specs.Made.{flags-loaded}
+use Rattle.contact_records.specs.MadeLaws.{flags-loaded}
 use borrow.Author.Needs.{needs}
 use Rattle.contact_records.proofs.state.load_flags.Statement.{statement}
 use Rattle.contact_records.proofs.state.load_flags.Tie as tie

@@ -2,7 +2,7 @@
 use mathlib.Core.Path.{ap, _∙_}
 use mir.Syntax.{w32}
 use mir.ValLaws.{toZ-ofZ}
-use Rattle.contact_records.specs.Ints.{read-negative, read-natural}
+use Rattle.contact_records.specs.IntLaws.{read-negative, read-natural}
 use Rattle.contact_records.specs.Written.{intWord}
 use Rattle.contact_records.proofs.state.word_of_int.Statement.{statement}
 use Rattle.contact_records.proofs.state.word_of_int.Tie as tie

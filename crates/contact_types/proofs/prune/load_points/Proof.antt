@@ -5,7 +5,7 @@ use native.Mathlib.Omega.{arith}
 use borrow.Author.Needs.{needs}
 use lib.ListN.{length, length-set}
 use Rattle.contact_types.specs.Prune.{LoadedPoints}
-use Rattle.contact_types.specs.PruneLoad.{loaded-step}
+use Rattle.contact_types.specs.PruneLoadLaws.{loaded-step}
 use Rattle.contact_types.proofs.prune.load_points.Statement.{statement}
 use Rattle.contact_types.proofs.prune.load_points.Tie as tie
 

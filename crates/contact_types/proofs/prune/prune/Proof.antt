@@ -5,7 +5,7 @@ use Prim.Native.Nat.{ℕ}
 use borrow.Author.Needs.{needs}
 use borrow.Author.Tests.{eq-eqb, ne-eqb, lt-ltb, le-ltb}
 use Rattle.contact_types.specs.Prune.{pruneAnswer, keeps}
-use Rattle.contact_types.specs.PruneLoad.{kept-loaded}
+use Rattle.contact_types.specs.PruneLoadLaws.{kept-loaded}
 use Rattle.contact_types.specs.Pruned.{keptStruct}
 use Rattle.contact_types.proofs.prune.prune.Statement.{statement}
 use Rattle.contact_types.proofs.prune.prune.Tie as tie
@@ -33,4 +33,4 @@ returns-4 c =
     }
 
 pub prune-spec : {M : Type 1} → statement M
-prune-spec = tie.close (tie.spec (search needs) returns returns-2 returns-3 (search needs) (search needs) returns-4)
+prune-spec = tie.close (tie.spec returns returns-2 returns-3 (search needs) (search needs) returns-4)

@@ -8,7 +8,7 @@ use Rattle.rules.specs.Numbers.{greater, leader}
 use Rattle.rules.specs.Pruning.{point1, weight}
 use lib.Ieee.{Float}
 use Rattle.contact_types.specs.Pruned.{projectedBy}
-use Rattle.contact_types.specs.PruneSteps.{Stands, stands-start, turn-greater, weightOf}
+use Rattle.contact_types.specs.PruneStepLaws.{Stands, stands-start, turn-greater, weightOf}
 use Rattle.contact_types.proofs.pruning.first_point.Statement.{statement}
 use Rattle.contact_types.proofs.pruning.first_point.Tie as tie
 

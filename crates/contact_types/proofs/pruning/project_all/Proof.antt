@@ -5,7 +5,7 @@ use native.Mathlib.Omega.{arith}
 use borrow.Author.Needs.{needs}
 use lib.ListN.{length, length-set}
 use Rattle.contact_types.specs.Pruned.{AllProjected}
-use Rattle.contact_types.specs.PruneSteps.{projected-step}
+use Rattle.contact_types.specs.PruneStepLaws.{projected-step}
 use Rattle.contact_types.proofs.pruning.project_all.Statement.{statement}
 use Rattle.contact_types.proofs.pruning.project_all.Tie as tie
 

@@ -2,7 +2,7 @@
 use mathlib.Core.Path.{refl, ap, _∙_}
 use borrow.Author.Needs.{needs}
 use Rattle.contact_types.specs.Pruned.{keptStruct}
-use Rattle.contact_types.specs.PruneEnd.{first-below, second-below, kept-gathered}
+use Rattle.contact_types.specs.PruneEndLaws.{first-below, second-below, kept-gathered}
 use Rattle.contact_types.proofs.pruning.prune_points.Statement.{statement}
 use Rattle.contact_types.proofs.pruning.prune_points.Tie as tie
 

@@ -7,7 +7,7 @@ use Rattle.math.specs.Constants.{lowest}
 use Rattle.rules.specs.Numbers.{greater, leader}
 use Rattle.rules.specs.Pruning.{point2, weight, otherThan}
 use Rattle.contact_types.specs.Pruned.{projectedBy}
-use Rattle.contact_types.specs.PruneSteps.{Stands, stands-start, turn-greater, weightFrom}
+use Rattle.contact_types.specs.PruneStepLaws.{Stands, stands-start, turn-greater, weightFrom}
 use Rattle.contact_types.proofs.pruning.second_point.Statement.{statement}
 use Rattle.contact_types.proofs.pruning.second_point.Tie as tie
 

@@ -10,7 +10,7 @@ use Rattle.math.specs.declared.vec.Vec3.{Vec3}
 use Rattle.rules.specs.Numbers.{Better, greater, less, leader}
 use Rattle.rules.specs.Pruning.{sideValue, rest, point3, point4}
 use Rattle.contact_types.specs.Pruned.{projectedBy, numbered}
-use Rattle.contact_types.specs.PruneSteps.{Stands, stands-start, turn-greater, turn-less}
+use Rattle.contact_types.specs.PruneStepLaws.{Stands, stands-start, turn-greater, turn-less}
 use Rattle.contact_types.specs.declared.pruning.Projected.{Projected}
 use Rattle.contact_types.proofs.pruning.side_points.Statement.{statement}
 use Rattle.contact_types.proofs.pruning.side_points.Tie as tie

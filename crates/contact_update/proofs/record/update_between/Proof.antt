@@ -2,7 +2,7 @@
 use mathlib.Core.Path.{ap, _∙_}
 use Rattle.rules.specs.Sides.{overlap}
 use Rattle.contact_records.specs.Recorded.{pairAt}
-use Rattle.contact_update.specs.Branches.{updates-by, between-disjoint, between-overlapping, no-overlap, no-interaction, both-hold}
+use Rattle.contact_update.specs.BranchLaws.{updates-by, between-disjoint, between-overlapping, no-overlap, no-interaction, both-hold}
 use borrow.Author.Needs.{needs}
 use Rattle.contact_update.proofs.record.update_between.Statement.{statement}
 use Rattle.contact_update.proofs.record.update_between.Tie as tie

@@ -3,7 +3,7 @@ use mathlib.Core.Path.{sym, ap, _∙_}
 use Rattle.rules.specs.Records.{PairFlags}
 use Rattle.contact_records.specs.Recorded.{pairAt}
 use Rattle.contact_records.specs.StateViews.{cacheOf}
-use Rattle.contact_update.specs.Branches.{updates-by, recycles-read, overlapped-full, overlapped-none, overlapped-recycled}
+use Rattle.contact_update.specs.BranchLaws.{updates-by, recycles-read, overlapped-full, overlapped-none, overlapped-recycled}
 use borrow.Author.Needs.{needs}
 use Rattle.contact_update.proofs.record.update_overlapping.Statement.{statement}
 use Rattle.contact_update.proofs.record.update_overlapping.Tie as tie

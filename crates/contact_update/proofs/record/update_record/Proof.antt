@@ -5,8 +5,8 @@ use Rattle.collider.specs.Recorded.{colliderAt}
 use Rattle.collider.specs.Views.{plainColliderIf}
 use Rattle.contact_records.specs.Recorded.{pairAt}
 use Rattle.contact_update.specs.After.{recordUpdated}
-use Rattle.contact_update.specs.Branches.{updates-by, skipped-updates, first-absent, second-absent, both-present, body-below}
-use Rattle.contact_update.specs.RecordReads.{counted-of}
+use Rattle.contact_update.specs.BranchLaws.{updates-by, skipped-updates, first-absent, second-absent, both-present, body-below}
+use Rattle.contact_update.specs.RecordReadLaws.{counted-of}
 use borrow.Author.Needs.{needs}
 use Rattle.contact_update.proofs.record.update_record.Statement.{statement}
 use Rattle.contact_update.proofs.record.update_record.Tie as tie

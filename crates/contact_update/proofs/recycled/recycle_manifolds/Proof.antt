@@ -7,7 +7,7 @@ use lib.ListN.{length, take}
 use Rattle.words.specs.Words.{wordAt}
 use Rattle.manifold_records.specs.Recorded.{manifoldsAt}
 use Rattle.contact_update.specs.After.{manifoldsPut}
-use Rattle.contact_update.specs.ManifoldTurns.{manifolds-turn, manifolds-all, left-turn}
+use Rattle.contact_update.specs.ManifoldTurnLaws.{manifolds-turn, manifolds-all, left-turn}
 use Rattle.contact_update.specs.PutLaws.{Left}
 use Rattle.contact_update.specs.Updates.{manifoldAfter}
 use borrow.Author.Needs.{needs}

@@ -1,5 +1,5 @@
 -- `contact_update::renewal::matched_count` meets its contract. Assumes nothing.
-use Rattle.contact_update.specs.MatchTurns.{count-off, count-many, count-few}
+use Rattle.contact_update.specs.MatchTurnLaws.{count-off, count-many, count-few}
 use Rattle.contact_update.proofs.renewal.matched_count.Statement.{statement}
 use Rattle.contact_update.proofs.renewal.matched_count.Tie as tie
 

@@ -21,7 +21,7 @@ returns c =
     let fits : SFits w32 (n .result) = subst (SFits w32) (sym (n .ensures)) (change-fit (g .args .new) (g .args .old) (g .pre .1) (g .pre .0)) in
     let back : toZ w32 (ofZ w32 (n .result)) ≡ n .result = toZ-ofZ w32 (n .result) fits in
     record {
-      flags = c .before .before .before .before .renewed-flags .ensures ∙ (λ i. renewedFlags (flagsOf (g .args .flags)) (g .args .a .fixed) (g .args .b .fixed) (on i) (not (eqb (g .args .new) 0)));
+      flags = c .before .before .before .before .renewed-flags .ensures ∙ (λ i. renewedFlags (flagsOf (g .args .flags)) (g .args .a .«is_static») (g .args .b .«is_static») (on i) (not (eqb (g .args .new) 0)));
       change = c .before .before .before .word-of-int .ensures ∙ ap intWord (back ∙ n .ensures);
       cache = c .before .before .cache-of .ensures;
       bit = c .before .status-bit .ensures ∙ (λ i. statusBit (flagsOf (g .args .flags)) (on i) (not (eqb (g .args .new) 0)) ((back ∙ n .ensures) i));

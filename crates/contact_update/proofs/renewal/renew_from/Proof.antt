@@ -4,8 +4,8 @@ use mathlib.Core.Bool.{_&&_}
 use lib.Dec.{leb}
 use Rattle.collider.specs.Views.{plainSettings}
 use Rattle.contact_parameters.specs.Views.{plainSurface}
-use Rattle.contact_update.specs.ManifoldFits.{FitSurface, proposal-read, remaining-fits}
-use Rattle.contact_update.specs.MatchTurns.{old-fewer, written, renewed-from}
+use Rattle.contact_update.specs.ManifoldFitLaws.{FitSurface, proposal-read, remaining-fits}
+use Rattle.contact_update.specs.MatchTurnLaws.{old-fewer, written, renewed-from}
 use borrow.Author.Needs.{needs}
 use Rattle.contact_update.proofs.renewal.renew_from.Statement.{statement}
 use Rattle.contact_update.proofs.renewal.renew_from.Tie as tie

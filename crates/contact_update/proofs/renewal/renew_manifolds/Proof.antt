@@ -1,6 +1,6 @@
 -- `contact_update::renewal::renew_manifolds` meets its contract: the copy has the old manifolds. Assumes nothing.
 use native.Mathlib.Omega.{arith}
-use Rattle.contact_update.specs.MatchTurns.{olds-counted, renewed-read}
+use Rattle.contact_update.specs.MatchTurnLaws.{olds-counted, renewed-read}
 use borrow.Author.Needs.{needs}
 use Rattle.contact_update.proofs.renewal.renew_manifolds.Statement.{statement}
 use Rattle.contact_update.proofs.renewal.renew_manifolds.Tie as tie

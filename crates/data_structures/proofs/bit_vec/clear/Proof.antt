@@ -3,7 +3,7 @@ use mathlib.Core.Path.{_≡_, refl, _∙_}
 use Prim.Native.Nat.{_≤_, _-_}
 use borrow.Author.Needs.{needs}
 use lib.ListN.{length}
-use Rattle.rows.specs.Arrays.{front, front-all, front-step}
+use Rattle.rows.specs.ArrayLaws.{front, front-all, front-step}
 use Rattle.data_structures.specs.BitVec.{cleared}
 use Rattle.data_structures.proofs.bit_vec.clear.Statement.{statement}
 use Rattle.data_structures.proofs.bit_vec.clear.Tie as tie

@@ -4,7 +4,7 @@ use Prim.Native.Nat.{_≤_, _-_}
 use native.Mathlib.Omega.{arith}
 use borrow.Author.Needs.{needs}
 use lib.ListN.{length}
-use Rattle.rows.specs.Arrays.{front}
+use Rattle.rows.specs.ArrayLaws.{front}
 use Rattle.rows.specs.Rows.{put, each}
 use Rattle.rules.specs.Matching.{byNumber, matchAll}
 use Rattle.manifold_records.specs.Written.{manifoldWords}

@@ -1,5 +1,5 @@
 -- `manifold_records::point::load_point` meets its contract. Assumes nothing.
-use Rattle.manifold_records.specs.Made.{point-loaded}
+use Rattle.manifold_records.specs.MadeLaws.{point-loaded}
 use borrow.Author.Needs.{needs}
 use Rattle.manifold_records.proofs.point.load_point.Statement.{statement}
 use Rattle.manifold_records.proofs.point.load_point.Tie as tie

@@ -1,5 +1,5 @@
 -- `manifold_records::point::point_of` meets its contract. Assumes nothing.
-use Rattle.manifold_records.specs.Made.{point-made}
+use Rattle.manifold_records.specs.MadeLaws.{point-made}
 use borrow.Author.Needs.{needs}
 use Rattle.manifold_records.proofs.point.point_of.Statement.{statement}
 use Rattle.manifold_records.proofs.point.point_of.Tie as tie

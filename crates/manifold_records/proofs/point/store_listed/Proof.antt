@@ -5,7 +5,7 @@ use lib.ListN.{length, take}
 use Rattle.rows.specs.Rows.{put, each}
 use Rattle.rows.specs.EachLaws.{each-step}
 use Rattle.contact_types.specs.Views.{pointOf}
-use Rattle.manifold_records.specs.Stored.{each-map, point-size}
+use Rattle.manifold_records.specs.StoredLaws.{each-map, point-size}
 use Rattle.manifold_records.specs.Written.{pointWords}
 use borrow.Author.Needs.{needs}
 use Rattle.manifold_records.proofs.point.store_listed.Statement.{statement}

@@ -3,7 +3,7 @@ use mathlib.Core.Path.{_≡_, refl}
 use Prim.Native.Nat.{_≤_, _-_}
 use lib.ListN.{length, length-set}
 use Rattle.rows.specs.Rows.{put}
-use Rattle.manifold_records.specs.Stored.{zeros-step}
+use Rattle.manifold_records.specs.StoredLaws.{zeros-step}
 use Rattle.manifold_records.specs.Written.{zeros}
 use borrow.Author.Needs.{needs}
 use Rattle.manifold_records.proofs.zeros.store_zeros.Statement.{statement}

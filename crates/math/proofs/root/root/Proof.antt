@@ -13,7 +13,7 @@ use lib.Ieee.Exact.{HasValue}
 use lib.Ieee.Positive.{positive, value-pos}
 use Rattle.math.specs.Laws.{is-nan, differs-is}
 use Rattle.math.specs.Root.{nearestRoot, rootOf, root}
-use Rattle.math.proofs.Cases.{zero-is, infinity-is, nan-made, of-zero, of-negative, of-infinity, left, of-value, subnormal, normal}
+use Rattle.math.proofs.CaseLaws.{zero-is, infinity-is, nan-made, of-zero, of-negative, of-infinity, left, of-value, subnormal, normal}
 use Rattle.math.proofs.root.root.Statement.{statement}
 use Rattle.math.proofs.root.root.Tie as tie
 

@@ -31,19 +31,19 @@ loop-holds c = (search needs, search needs, refl, refl, refl, record { each = λ
 loop-again : tie.Need-loop-again Inv-loop μ-loop
 loop-again c =
     let w = c .before .before .before .before .before .loop in
-    let o = one-most (c .before .stays .result) (c .one-if .ensures) in (
+    let o = one-most (c .before .stays .result) (c .mark-word .ensures) in (
       search needs,
       omega arith,
       simp length-set (w .inv .2),
       simp length-set (w .inv .3),
-      stays-step _ _ _ _ _ (w .k) (w .count) (w .points) (w .inv .4) (c .before .before .before .moved-point-at .ensures) (c .before .stays .ensures) (c .one-if .ensures) (search needs),
+      stays-step _ _ _ _ _ (w .k) (w .count) (w .points) (w .inv .4) (c .before .before .before .moved-point-at .ensures) (c .before .stays .ensures) (c .mark-word .ensures) (search needs),
       view-both (w .points) (w .view) (w .count) _ o (search needs) (search needs) (w .inv .5) (c .before .before .prune-point2 .ensures),
     )
 
 add-count : tie.Need-add-count Inv-loop μ-loop
 add-count c =
     let w = c .before .before .before .before .before .loop in
-    let o = one-most (c .before .stays .result) (c .one-if .ensures) in
+    let o = one-most (c .before .stays .result) (c .mark-word .ensures) in
     omega (arith, w .inv .1)
 
 returns : tie.Need-returns Inv-loop μ-loop
@@ -70,4 +70,4 @@ returns c =
 pub kept-points-spec : {M : Type 1} → statement M
 kept-points-spec =
     tie.close
-    (tie.spec Inv-loop μ-loop (search needs) (search needs) loop-holds (search needs) (search needs) (search needs) (search needs) (search needs) (search needs) (search needs) (search needs) (search needs) (search needs) add-count (search needs) (search needs) loop-again (search needs) (search needs) (search needs) (search needs) (search needs) (search needs) (search needs) (search needs) (search needs) (search needs) (search needs) (search needs) (search needs) returns)
+    (tie.spec Inv-loop μ-loop (search needs) (search needs) loop-holds (search needs) (search needs) (search needs) (search needs) (search needs) (search needs) (search needs) (search needs) (search needs) (search needs) (search needs) add-count (search needs) (search needs) loop-again (search needs) (search needs) (search needs) (search needs) (search needs) (search needs) (search needs) (search needs) (search needs) (search needs) (search needs) (search needs) (search needs) returns)

@@ -1,5 +1,5 @@
 -- `proposals::proposal::load_proposed_point` meets its contract. Assumes nothing.
-use Rattle.proposals.specs.Loaded.{point-loaded}
+use Rattle.proposals.specs.LoadedLaws.{point-loaded}
 use borrow.Author.Needs.{needs}
 use Rattle.proposals.proofs.proposal.load_proposed_point.Statement.{statement}
 use Rattle.proposals.proofs.proposal.load_proposed_point.Tie as tie

@@ -10,7 +10,7 @@ use Rattle.rules.specs.Numbers.{every}
 use Rattle.rule_laws.specs.NumberLaws.{every-next, every-fails}
 use Rattle.contact_range.specs.Range.{stands}
 use Rattle.contact_range.specs.RangeLaws.{standing-below}
-use Rattle.contact_range.specs.RangeSteps.{Marked, marked-none, seen, marks-next, marks-size, refused, passed, every-none}
+use Rattle.contact_range.specs.RangeStepLaws.{Marked, marked-none, seen, marks-next, marks-size, refused, passed, every-none}
 use Rattle.shares.specs.Shares.{entryAt, entriesStand, entriesOnce}
 use borrow.Author.Needs.{needs}
 use Rattle.shares.proofs.range.entries_fit.Statement.{statement}

@@ -1,7 +1,7 @@
 -- `shares::range::shares_fit` meets its contract: each test in its turn. Assumes nothing.
 use mathlib.Core.Path.{refl, ap, _∙_}
 use native.Mathlib.Omega.{arith}
-use Rattle.contact_range.specs.RangeSteps.{allZero, unmarked}
+use Rattle.contact_range.specs.RangeStepLaws.{allZero, unmarked}
 use Rattle.shares.specs.Shares.{startOf}
 use Rattle.shares.specs.SharesLaws.{no-worker, many-workers, many-entries, entries-unfit, number-unfit}
 use borrow.Author.Needs.{needs}

@@ -2,7 +2,7 @@
 use mathlib.Core.Path.{ap, _∙_}
 use native.Mathlib.Omega.{arith}
 use Rattle.contact_range.specs.RangeLaws.{right-length}
-use Rattle.contact_range.specs.RangeSteps.{refused, passed}
+use Rattle.contact_range.specs.RangeStepLaws.{refused, passed}
 use Rattle.step.specs.Step.{givenLong, rowsLong, lengthsFit}
 use Rattle.step.specs.TestLaws.{first-fails, rest-decides}
 use borrow.Author.Needs.{needs}

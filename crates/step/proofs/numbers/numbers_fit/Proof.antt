@@ -1,6 +1,6 @@
 -- `step::numbers::numbers_fit` meets its contract: test by test. Assumes nothing.
 use Rattle.contact_graph.specs.CallLaws.{checked}
-use Rattle.contact_range.specs.RangeSteps.{refused, passed}
+use Rattle.contact_range.specs.RangeStepLaws.{refused, passed}
 use Rattle.step.specs.Step.{rowsInRange}
 use Rattle.step.specs.TestLaws.{first-fails, rest-decides}
 use borrow.Author.Needs.{needs}

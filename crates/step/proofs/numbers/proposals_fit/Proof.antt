@@ -6,7 +6,7 @@ use Prim.Native.Nat.{ℕ, _-_, _*_, _≤_, _<_}
 use native.Mathlib.Omega.{arith}
 use Rattle.rules.specs.Numbers.{every}
 use Rattle.rule_laws.specs.NumberLaws.{every-next, every-fails}
-use Rattle.contact_range.specs.RangeSteps.{refused, passed, every-none}
+use Rattle.contact_range.specs.RangeStepLaws.{refused, passed, every-none}
 use Rattle.contact_range.specs.Recorded.{listedAt}
 use Rattle.proposals.specs.Range.{proposalFits}
 use Rattle.step.specs.Step.{proposalsFit}

@@ -2,7 +2,7 @@
 use mathlib.Core.Path.{refl, ap, _∙_}
 use native.Mathlib.Omega.{arith}
 use Rattle.data_structures.specs.BitVec.{blocksOf}
-use Rattle.step.specs.Accepted.{accepted}
+use Rattle.step.specs.AcceptedLaws.{accepted}
 use Rattle.step.specs.CodeLaws.{shares-ready, updates-left, count-few, bits-size, ids-room, rows-there, step-done, counts-few}
 use borrow.Author.Needs.{needs}
 use Rattle.step.proofs.step.step_accepted.Statement.{statement}

@@ -8,7 +8,7 @@ use Rattle.rows.specs.Rows.{put}
 use Rattle.rows.specs.Laws.{put-whole}
 use Rattle.data_structures.specs.BitVec.{blocksOf}
 use Rattle.data_structures.specs.BitVecLaws.{blocks-hold}
-use Rattle.manifold_records.specs.Lists.{length-zeros}
+use Rattle.manifold_records.specs.ListLaws.{length-zeros}
 use Rattle.manifold_records.specs.Written.{zeros}
 use Rattle.contact_range.specs.Recorded.{capacityOf}
 use Rattle.shares.specs.Shares.{workersOf}

@@ -7,7 +7,7 @@ use Rattle.rows.specs.Slots.{upto}
 use Rattle.collider.specs.Views.{plainSettings}
 use Rattle.update_pass.specs.Share.{Taken}
 use Rattle.update_pass.specs.Shared.{firstOf, bitsAfter, distancesAfter, recycledOf}
-use Rattle.contact_update.specs.Order.{graphAfterAll}
+use Rattle.contact_update.specs.OrderLaws.{graphAfterAll}
 use Rattle.update_pass.specs.ShareLaws.{next-entry, places, turn-ready, turn-few, turn-taken, turns-done}
 use borrow.Author.Needs.{needs}
 use Rattle.update_pass.proofs.share.update_share.Statement.{statement}
@@ -52,7 +52,7 @@ update-contact-requires c κs =
 add-recycled : tie.Need-add-recycled Inv-loop μ-loop
 add-recycled c =
     let p = places _ _ _ _ _ _ (c .before .before .before .before .before .before .before .before .before .before .before .before .before .before .before .before .before .before .before .before .before .before .before .pre) in
-    let f = turn-few _ _ _ _ _ _ (c .before .before .before .before .before .before .before .before .before .before .before .before .before .before .before .before .before .before .before .before .before .before .before .pre) (c .before .before .before .before .before .before .before .before .before .before .before .before .before .loop .k) (c .before .before .before .before .before .before .before .before .before .before .before .before .before .loop .inv .1) (c .before .before .before .before .before .before .before .update-contact .result) (c .one-if .ensures) (c .before .before .before .before .before .before .before .before .before .before .before .before .loop-test .taken) in
+    let f = turn-few _ _ _ _ _ _ (c .before .before .before .before .before .before .before .before .before .before .before .before .before .before .before .before .before .before .before .before .before .before .before .pre) (c .before .before .before .before .before .before .before .before .before .before .before .before .before .loop .k) (c .before .before .before .before .before .before .before .before .before .before .before .before .before .loop .inv .1) (c .before .before .before .before .before .before .before .update-contact .result) (c .mark-word .ensures) (c .before .before .before .before .before .before .before .before .before .before .before .before .loop-test .taken) in
     omega (arith, p .most, p .room, c .before .before .before .before .before .before .before .before .before .before .before .before .before .before .load-word .ensures, f)
 
 loop-again : tie.Need-loop-again Inv-loop μ-loop
@@ -60,7 +60,7 @@ loop-again c =
     let l = subst (λ (n : ℕ). c .before .before .before .before .before .before .before .before .before .before .before .before .before .loop .k < n) (c .before .before .before .before .before .before .before .before .before .before .before .before .before .before .load-word .ensures) (c .before .before .before .before .before .before .before .before .before .before .before .before .loop-test .taken) in
     let e = next-entry _ _ _ _ _ (c .before .before .before .before .before .before .before .before .before .before .before .before .before .before .before .before .before .before .before .before .before .before .before .pre .listed) _ (c .before .before .before .before .before .before .before .before .before .before .before .before .before .before .before .before .before .before .before .before .before .before .before .pre .given) (c .before .before .before .before .before .before .before .before .before .before .before .before .before .loop .k) l (ap (λ (n : ℕ). 9 + n) (c .before .before .before .before .before .before .before .before .before .before .before .before .before .before .before .start-of .ensures)) (c .before .before .before .before .before .before .before .before .before .before .before .load-word2 .ensures) in (
       search needs,
-      turn-taken _ _ _ _ _ _ (c .before .before .before .before .before .before .before .before .before .before .before .before .before .before .before .before .before .before .before .before .before .before .before .pre) (c .before .before .before .before .before .before .before .before .before .before .before .before .before .loop .k) (c .before .before .before .before .before .before .before .before .before .before .before .before .before .loop .inv .1) _ l e (c .before .before .before .before .before .before .before .update-contact .ensures) (c .one-if .ensures),
+      turn-taken _ _ _ _ _ _ (c .before .before .before .before .before .before .before .before .before .before .before .before .before .before .before .before .before .before .before .before .before .before .before .pre) (c .before .before .before .before .before .before .before .before .before .before .before .before .before .loop .k) (c .before .before .before .before .before .before .before .before .before .before .before .before .before .loop .inv .1) _ l e (c .before .before .before .before .before .before .before .update-contact .ensures) (c .mark-word .ensures),
       search needs,
       search needs,
       search needs,

@@ -4,7 +4,7 @@ use mathlib.Core.List.{List}
 use Prim.Native.Nat.{ℕ, _+_, _-_, _*_, _≤_}
 use native.Mathlib.Omega.{arith}
 use lib.ListN.{length}
-use Rattle.manifold_records.specs.Lists.{length-zeros}
+use Rattle.manifold_records.specs.ListLaws.{length-zeros}
 use Rattle.update_pass.specs.JoinLaws.{part-room, part-length, join-next}
 use Rattle.update_pass.specs.Share.{joinedParts}
 use borrow.Author.Needs.{needs}

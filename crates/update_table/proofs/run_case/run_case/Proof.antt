@@ -1,8 +1,8 @@
 -- `update_table::run_case::run_case` meets its contract: what was tested is what the update asks. Assumes nothing.
 use borrow.Author.Needs.{needs}
 use Rattle.contact_range.specs.RangeLaws.{fitting}
-use Rattle.contact_range.specs.RangeSteps.{passed}
-use Rattle.proposals.specs.Loaded.{proposed}
+use Rattle.contact_range.specs.RangeStepLaws.{passed}
+use Rattle.proposals.specs.LoadedLaws.{proposed}
 use Rattle.update_table.proofs.run_case.run_case.Statement.{statement}
 use Rattle.update_table.proofs.run_case.run_case.Tie as tie
 

@@ -1,6 +1,6 @@
 -- `words::vec::store_quat` meets its contract. Assumes nothing.
 use borrow.Author.Needs.{needs}
-use Rattle.words.specs.Stored.{quat-stored}
+use Rattle.words.specs.StoredLaws.{quat-stored}
 use Rattle.words.proofs.vec.store_quat.Statement.{statement}
 use Rattle.words.proofs.vec.store_quat.Tie as tie
 

@@ -1,5 +1,5 @@
 -- `words::vec::store_vec3` meets its contract. Assumes nothing.
-use Rattle.words.specs.Stored.{vec3-stored}
+use Rattle.words.specs.StoredLaws.{vec3-stored}
 use borrow.Author.Needs.{needs}
 use Rattle.words.proofs.vec.store_vec3.Statement.{statement}
 use Rattle.words.proofs.vec.store_vec3.Tie as tie

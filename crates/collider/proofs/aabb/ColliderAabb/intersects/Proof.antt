@@ -1,6 +1,6 @@
 -- `collider::aabb::ColliderAabb::intersects` meets its contract. Assumes nothing.
 use borrow.Author.Needs.{needs}
-use Rattle.collider.specs.Tests.{passes, fails}
+use Rattle.collider.specs.TestLaws.{passes, fails}
 use Rattle.collider.specs.Boxes.{intersecting}
 use Rattle.collider.proofs.aabb.ColliderAabb.intersects.Statement.{statement}
 use Rattle.collider.proofs.aabb.ColliderAabb.intersects.Tie as tie

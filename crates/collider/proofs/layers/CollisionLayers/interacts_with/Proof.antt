@@ -1,6 +1,6 @@
 -- `collider::layers::CollisionLayers::interacts_with` meets its contract. Assumes nothing.
 use borrow.Author.Needs.{needs}
-use Rattle.collider.specs.Tests.{passes, fails}
+use Rattle.collider.specs.TestLaws.{passes, fails}
 use Rattle.collider.proofs.layers.CollisionLayers.interacts_with.Statement.{statement}
 use Rattle.collider.proofs.layers.CollisionLayers.interacts_with.Tie as tie
 

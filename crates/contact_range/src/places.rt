@@ -1,0 +1,37 @@
+// Where a graph's words stand: a word as a number, a contact's record, a free id.
+ghost use mathlib.Core.Path.{_≡_};
+ghost use Prim.Native.Nat.{_<_};
+ghost use lib.ListN.{length};
+ghost use Rattle.words.specs.Words.{wordAt};
+ghost use Rattle.contact_range.specs.Recorded.{capacityOf, freeAt};
+ghost use Rattle.contact_range.specs.RangeLaws.{RightLength, RecordAt};
+use layout::contact::CONTACT_SIZE;
+use layout::graph::GRAPH_CAPACITY;
+use layout::graph::GRAPH_LIST;
+use words::row::load_word;
+
+// A word as a number of places.
+pub fn number_at(graph: &[u32], at: usize) -> usize
+    requires { ⌜ at < length (now graph) ⌝ }
+    ensures { λ r. ⌜ r ≡ wordAt (now (graph .entry)) at ⌝ }
+{
+    load_word(graph, at) as usize
+}
+
+// Where the record of a contact begins.
+pub fn contact_at(graph: &[u32], id: usize) -> usize
+    requires { ⌜ RightLength (now graph) × (id < capacityOf (now graph)) ⌝ }
+    ensures { λ r. ⌜ RecordAt (now (graph .entry)) id r ⌝ }
+{
+    let capacity = number_at(graph, GRAPH_CAPACITY);
+    GRAPH_LIST + 2 * capacity + id * CONTACT_SIZE
+}
+
+// The id at a place of the free ids.
+pub fn free_at(graph: &[u32], k: usize) -> usize
+    requires { ⌜ RightLength (now graph) × (k < capacityOf (now graph)) ⌝ }
+    ensures { λ r. ⌜ r ≡ freeAt (now (graph .entry)) k ⌝ }
+{
+    let capacity = number_at(graph, GRAPH_CAPACITY);
+    number_at(graph, GRAPH_LIST + capacity + k)
+}
