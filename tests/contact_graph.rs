@@ -2,6 +2,12 @@
 // rustc -O -o target/contact_graph tests/contact_graph.rs && target/contact_graph table > crates/contact_graph_table/stdout
 // target/contact_graph damage > crates/contact_graph_damage/stdout
 
+#[allow(dead_code)]
+#[path = "reference/src/layout.rs"]
+mod layout;
+
+use layout::*;
+
 // ---- The model: the pairs in order, the ids given, the free ids in the order freed.
 #[derive(Clone, Copy)]
 struct Request {
@@ -21,18 +27,26 @@ struct Graph {
 
 const PLACEHOLDER: u32 = u32::MAX;
 
+fn is_no_collider(number: u32) -> bool {
+    number as usize >= COLLIDERS
+}
+
+fn is_no_body(mark: u32, number: u32) -> bool {
+    mark == 1 && number as usize >= BODIES
+}
+
 fn number_strays(a: &Request) -> bool {
-    a.colliders.iter().any(|c| *c >= 256)
+    a.colliders.iter().any(|c| is_no_collider(*c))
         || a.bodies
             .iter()
-            .any(|(mark, n)| *mark > 1 || *mark == 1 && *n >= 128)
+            .any(|(mark, n)| *mark > 1 || is_no_body(*mark, *n))
         || a.contact_events > 1
         || a.modify_contacts > 1
 }
 
 fn lay_out(length: usize, capacity: u32) -> Result<Graph, u32> {
     let c = capacity as usize;
-    if c == 0 || c > 256 || length != 4 + 2 * c + 523 * c {
+    if c == 0 || c > MOST_CONTACTS || length != graph_length(c) {
         return Err(1);
     }
     Ok(Graph {
@@ -41,6 +55,12 @@ fn lay_out(length: usize, capacity: u32) -> Result<Graph, u32> {
         free: vec![],
         pairs: vec![],
     })
+}
+
+fn laid_out(capacity: u32) -> Graph {
+    lay_out(graph_length(capacity as usize), capacity)
+        .ok()
+        .unwrap()
 }
 
 impl Graph {
@@ -84,19 +104,19 @@ impl Graph {
     }
 
     // The record of the pair at a place, as far as the number of manifolds: those of a new pair.
-    fn record(&self, place: usize) -> [u32; 37] {
+    fn record(&self, place: usize) -> [u32; CONTACT_FIRST_MANIFOLD] {
         let a = &self.pairs[place].1;
-        let mut words = [0; 37];
-        words[0] = a.colliders[0];
-        words[1] = a.colliders[1];
-        for (k, (mark, number)) in a.bodies.iter().enumerate() {
-            words[2 + 2 * k] = *mark;
-            words[3 + 2 * k] = mark * number;
+        let mut words = [0; CONTACT_FIRST_MANIFOLD];
+        words[CONTACT_COLLIDER1] = a.colliders[0];
+        words[CONTACT_COLLIDER2] = a.colliders[1];
+        for (at, (mark, number)) in [CONTACT_BODY1, CONTACT_BODY2].iter().zip(&a.bodies) {
+            words[*at] = *mark;
+            words[at + 1] = mark * number;
         }
-        words[6] = place as u32;
-        words[8] = a.contact_events;
-        words[17] = a.modify_contacts;
-        words[19] = a.distance;
+        words[CONTACT_PAIR_INDEX] = place as u32;
+        words[CONTACT_EDGE_CONTACT_EVENTS] = a.contact_events;
+        words[CONTACT_MODIFY_CONTACTS] = a.modify_contacts;
+        words[CONTACT_SPECULATIVE_DISTANCE] = a.distance;
         words
     }
 
@@ -178,7 +198,7 @@ fn draw(key: u32, slot: u32) -> u32 {
 fn collider(key: u32, slot: u32) -> u32 {
     let d = draw(key, slot);
     if d % 64 == 0 {
-        256 + d / 64 % 3
+        COLLIDERS as u32 + d / 64 % 3
     } else {
         d / 64 % 6 * 51
     }
@@ -196,9 +216,9 @@ fn mark(key: u32, slot: u32) -> u32 {
 fn body(key: u32, slot: u32) -> u32 {
     let d = draw(key, slot);
     if d % 16 == 0 {
-        128 + d / 16 % 5000
+        BODIES as u32 + d / 16 % 5000
     } else {
-        d / 16 % 128
+        d / 16 % BODIES as u32
     }
 }
 
@@ -216,7 +236,7 @@ fn id(key: u32) -> u32 {
     let d = draw(key, 1);
     match d % 32 {
         0 => PLACEHOLDER,
-        1 => 256 + d / 32 % 9,
+        1 => MOST_CONTACTS as u32 + d / 32 % 9,
         _ => d / 32 % 10,
     }
 }
@@ -264,39 +284,41 @@ fn lay_out_line(length: usize, capacity: u32) {
 }
 
 fn table() {
-    let mut g = lay_out(4204, 8).ok().unwrap();
+    let mut g = laid_out(8);
     println!("lay_out\t8\tdone{}", g.line());
     let mut counts = [0; 10];
     for c in 0..600 {
         call(&mut g, c, &mut counts);
     }
     for (length, capacity) in [
-        (529, 1),
-        (529, 0),
-        (529, 2),
-        (529, u32::MAX),
-        (4, 0),
-        (528, 1),
-        (530, 1),
+        (graph_length(1), 1),
+        (graph_length(1), 0),
+        (graph_length(1), 2),
+        (graph_length(1), u32::MAX),
+        (graph_length(0), 0),
+        (graph_length(1) - 1, 1),
+        (graph_length(1) + 1, 1),
     ] {
         lay_out_line(length, capacity);
     }
-    lay_out_line(134929, 257);
-    lay_out_line(134929, 256);
-    lay_out_line(134404, 256);
-    let mut g = lay_out(134404, 256).ok().unwrap();
+    let most = MOST_CONTACTS as u32;
+    lay_out_line(graph_length(MOST_CONTACTS + 1), most + 1);
+    lay_out_line(graph_length(MOST_CONTACTS + 1), most);
+    lay_out_line(graph_length(MOST_CONTACTS), most);
+    let mut g = laid_out(most);
+    let half = COLLIDERS as u32 / 2;
     let nth = |c: u32| Request {
-        colliders: [c % 128, 128 + c / 128],
+        colliders: [c % half, half + c / half],
         bodies: [(0, 0); 2],
         contact_events: 0,
         modify_contacts: 0,
         distance: 0,
     };
-    let accepted = (0..255).filter(|c| g.add(nth(*c)).is_ok()).count();
+    let accepted = (0..most - 1).filter(|c| g.add(nth(*c)).is_ok()).count();
     println!(
         "fill\t{accepted}{}{}",
-        added(&g.add(nth(255))),
-        added(&g.add(nth(256)))
+        added(&g.add(nth(most - 1))),
+        added(&g.add(nth(most)))
     );
     eprintln!(
         "added, refused 2, 3, 4, 5; removed or not, found or not: {:?}",
@@ -310,42 +332,52 @@ impl Graph {
     // What is not recorded is 0.
     fn words(&self) -> Vec<u32> {
         let c = self.capacity;
-        let mut words = vec![0; 4 + 525 * c];
-        words[0] = c as u32;
-        words[1] = self.given;
-        words[2] = self.pairs.len() as u32;
-        words[3] = self.free.len() as u32;
-        words[4 + c..4 + c + self.free.len()].copy_from_slice(&self.free);
+        let mut words = vec![0; graph_length(c)];
+        words[GRAPH_CAPACITY] = c as u32;
+        words[GRAPH_GIVEN] = self.given;
+        words[GRAPH_LISTED] = self.pairs.len() as u32;
+        words[GRAPH_FREED] = self.free.len() as u32;
+        words[graph_free(c)..][..self.free.len()].copy_from_slice(&self.free);
         for (place, (id, _)) in self.pairs.iter().enumerate() {
-            words[4 + place] = *id;
-            let at = 4 + 2 * c + 523 * *id as usize;
-            words[at..at + 37].copy_from_slice(&self.record(place));
+            words[GRAPH_LIST + place] = *id;
+            let record = &mut words[graph_record(c, *id as usize)..];
+            record[..CONTACT_FIRST_MANIFOLD].copy_from_slice(&self.record(place));
         }
         words
     }
 }
 
+// Of a record: the bodies', those of edge and pair, the cache's.
+fn marks() -> Vec<usize> {
+    let mut marks = vec![CONTACT_BODY1, CONTACT_BODY2];
+    marks.extend(CONTACT_EDGE_FLAGS..CONTACT_COUNT_CHANGE);
+    marks.push(CONTACT_CACHE);
+    marks
+}
+
 fn record_strays(r: &[u32]) -> bool {
-    let marks = [2, 4, 7, 8, 9, 10, 11, 12, 13, 14, 15, 16, 17, 20];
-    r[0] >= 256
-        || r[1] >= 256
-        || marks.iter().any(|k| r[*k] > 1)
-        || r[2] == 1 && r[3] >= 128
-        || r[4] == 1 && r[5] >= 128
-        || r[36] > 6
-        || (0..r[36] as usize).any(|m| r[37 + 81 * m] > 4)
+    let manifolds = r[CONTACT_MANIFOLDS] as usize;
+    let points = |m: usize| r[contact_manifold(m) + MANIFOLD_COUNT] as usize;
+    is_no_collider(r[CONTACT_COLLIDER1])
+        || is_no_collider(r[CONTACT_COLLIDER2])
+        || marks().iter().any(|k| r[*k] > 1)
+        || is_no_body(r[CONTACT_BODY1], r[CONTACT_BODY1_NUMBER])
+        || is_no_body(r[CONTACT_BODY2], r[CONTACT_BODY2_NUMBER])
+        || manifolds > MANIFOLDS
+        || (0..manifolds).any(|m| points(m) > STORED_POINTS)
 }
 
 // Refusal 2 of a graph of the right length, word for word from the table.
 fn strays(w: &[u32]) -> bool {
-    let c = w[0] as usize;
-    let (given, listed, freed) = (w[1], w[2] as usize, w[3] as usize);
+    let c = w[GRAPH_CAPACITY] as usize;
+    let given = w[GRAPH_GIVEN];
+    let (listed, freed) = (w[GRAPH_LISTED] as usize, w[GRAPH_FREED] as usize);
     if given as usize > c || listed > c || freed > c {
         return true;
     }
-    let list = &w[4..4 + listed];
-    let free = &w[4 + c..4 + c + freed];
-    let record = |id: u32| &w[4 + 2 * c + 523 * id as usize..][..523];
+    let list = &w[GRAPH_LIST..][..listed];
+    let free = &w[graph_free(c)..][..freed];
+    let record = |id: u32| &w[graph_record(c, id as usize)..][..CONTACT_SIZE];
     let never_given = list.iter().chain(free).any(|id| *id >= given);
     if never_given {
         return true;
@@ -355,16 +387,17 @@ fn strays(w: &[u32]) -> bool {
     let neither = (0..given).any(|id| !free.contains(&id) && !list.contains(&id));
     let pair = |p: usize| {
         let r = record(list[p]);
-        (r[0].min(r[1]), r[0].max(r[1]))
+        let (a, b) = (r[CONTACT_COLLIDER1], r[CONTACT_COLLIDER2]);
+        (a.min(b), a.max(b))
     };
     let pair_twice = (0..listed).any(|p| (0..p).any(|q| pair(p) == pair(q)));
-    let not_naming = (0..listed).any(|p| record(list[p])[6] as usize != p);
+    let not_naming = (0..listed).any(|p| record(list[p])[CONTACT_PAIR_INDEX] as usize != p);
     let record_strays = list.iter().any(|id| record_strays(record(*id)));
     free_twice || both || neither || pair_twice || not_naming || record_strays
 }
 
 fn refusal(w: &[u32]) -> u32 {
-    if lay_out(w.len(), w[0]).is_err() {
+    if lay_out(w.len(), w[GRAPH_CAPACITY]).is_err() {
         1
     } else if strays(w) {
         2
@@ -373,9 +406,37 @@ fn refusal(w: &[u32]) -> u32 {
     }
 }
 
-// The damaged graph's contact 0 stands in every case that is not refused, and 1 was freed last.
+const CAPACITY: usize = 4;
+
+// In the damaged graph: a place of the list, of the free ids, of a contact's record.
+fn listed(place: usize) -> usize {
+    GRAPH_LIST + place
+}
+
+fn free(place: usize) -> usize {
+    graph_free(CAPACITY) + place
+}
+
+fn at(id: usize, place: usize) -> usize {
+    graph_record(CAPACITY, id) + place
+}
+
+// The number of points of a manifold of contact 0.
+fn points(m: usize) -> usize {
+    at(0, contact_manifold(m) + MANIFOLD_COUNT)
+}
+
+// The colliders of a contact.
+fn pair(id: usize, collider1: u32, collider2: u32) -> [(usize, u32); 2] {
+    [
+        (at(id, CONTACT_COLLIDER1), collider1),
+        (at(id, CONTACT_COLLIDER2), collider2),
+    ]
+}
+
+// The damaged graph's contact 0 stands in every case that is not refused, 1 was freed last, 2 is the last, 3 was never given.
 fn damaged(name: &str, refused: u32, changes: &[(usize, u32)], filled: std::ops::Range<usize>) {
-    let mut g = lay_out(2104, 4).ok().unwrap();
+    let mut g = laid_out(CAPACITY as u32);
     for (c, d, mark) in [(10, 20, 0), (30, 40, 1), (50, 60, 1)] {
         let a = Request {
             colliders: [c, d],
@@ -398,102 +459,198 @@ fn damaged(name: &str, refused: u32, changes: &[(usize, u32)], filled: std::ops:
     } else {
         println!(
             "{name}\tedge\t{}\t{}\tid\t1\tdone\tchanged",
-            words[12], words[13]
+            words[at(0, CONTACT_COLLIDER1)],
+            words[at(0, CONTACT_COLLIDER2)]
         );
     }
 }
 
 fn damage() {
-    let max = u32::MAX;
+    misfitting();
+    straying();
+    straying_ids();
+    standing();
+}
+
+fn misfitting() {
     let misfits = |name: &str, changes: &[(usize, u32)]| damaged(name, 1, changes, 0..0);
-    misfits("capacity 0", &[(0, 0)]);
-    misfits("capacity 3", &[(0, 3)]);
-    misfits("capacity 5", &[(0, 5)]);
-    misfits("capacity 257", &[(0, 257)]);
-    misfits("largest capacity, a collider too", &[(0, max), (12, 256)]);
+    misfits("capacity 0", &[(GRAPH_CAPACITY, 0)]);
+    misfits("capacity 3", &[(GRAPH_CAPACITY, 3)]);
+    misfits("capacity 5", &[(GRAPH_CAPACITY, 5)]);
+    misfits(
+        "capacity 257",
+        &[(GRAPH_CAPACITY, MOST_CONTACTS as u32 + 1)],
+    );
+    misfits(
+        "largest capacity, a collider too",
+        &[
+            (GRAPH_CAPACITY, u32::MAX),
+            (at(0, CONTACT_COLLIDER1), COLLIDERS as u32),
+        ],
+    );
+}
+
+// Numbers, marks and counts.
+fn straying() {
+    let max = u32::MAX;
+    let (colliders, bodies) = (COLLIDERS as u32, BODIES as u32);
+    let (manifolds, stored) = (MANIFOLDS as u32, STORED_POINTS as u32);
     let strays = |name: &str, changes: &[(usize, u32)]| damaged(name, 2, changes, 0..0);
-    strays("collider 1", &[(12, 256)]);
-    strays("collider 2", &[(13, 256)]);
-    strays("collider 1 of the last", &[(1058, 256)]);
-    strays("largest collider 2 of the last", &[(1059, max)]);
-    strays("body 1", &[(15, 128)]);
-    strays("body 1 of the last", &[(1061, 128)]);
-    strays("body 2 of the last", &[(1063, 128)]);
-    strays("body 2 by a mark", &[(16, 1), (17, 128)]);
-    for (name, at) in [("mark", 12), ("mark of the last", 1058)] {
-        for k in [2, 4, 7, 8, 9, 10, 11, 12, 13, 14, 15, 16, 17, 20] {
-            strays(&format!("{name}\t{k}"), &[(at + k, 2)]);
+    strays("collider 1", &[(at(0, CONTACT_COLLIDER1), colliders)]);
+    strays("collider 2", &[(at(0, CONTACT_COLLIDER2), colliders)]);
+    strays(
+        "collider 1 of the last",
+        &[(at(2, CONTACT_COLLIDER1), colliders)],
+    );
+    strays(
+        "largest collider 2 of the last",
+        &[(at(2, CONTACT_COLLIDER2), max)],
+    );
+    strays("body 1", &[(at(0, CONTACT_BODY1_NUMBER), bodies)]);
+    strays(
+        "body 1 of the last",
+        &[(at(2, CONTACT_BODY1_NUMBER), bodies)],
+    );
+    strays(
+        "body 2 of the last",
+        &[(at(2, CONTACT_BODY2_NUMBER), bodies)],
+    );
+    strays(
+        "body 2 by a mark",
+        &[
+            (at(0, CONTACT_BODY2), 1),
+            (at(0, CONTACT_BODY2_NUMBER), bodies),
+        ],
+    );
+    for (name, id) in [("mark", 0), ("mark of the last", 2)] {
+        for k in marks() {
+            strays(&format!("{name}\t{k}"), &[(at(id, k), 2)]);
         }
     }
-    strays("7 manifolds", &[(48, 7)]);
-    strays("7 manifolds of the last", &[(1094, 7)]);
-    strays("5 points", &[(48, 1), (49, 5)]);
-    strays("5 points in manifold 6", &[(48, 6), (454, 5)]);
-    strays("5 given, all known", &[(1, 5), (3, 3), (9, 3), (10, 4)]);
-    strays("5 listed", &[(2, 5)]);
-    strays("5 free", &[(3, 5)]);
-    strays("largest given", &[(1, max)]);
-    strays("largest listed", &[(2, max)]);
-    strays("largest free", &[(3, max)]);
-    strays("free twice", &[(3, 2), (9, 1)]);
-    strays("free and standing", &[(3, 2), (9, 0)]);
-    strays("free and listed", &[(2, 3), (6, 1), (541, 2)]);
+    let count = at(0, CONTACT_MANIFOLDS);
+    strays("7 manifolds", &[(count, manifolds + 1)]);
+    strays(
+        "7 manifolds of the last",
+        &[(at(2, CONTACT_MANIFOLDS), manifolds + 1)],
+    );
+    strays("5 points", &[(count, 1), (points(0), stored + 1)]);
+    strays(
+        "5 points in manifold 6",
+        &[(count, manifolds), (points(MANIFOLDS - 1), stored + 1)],
+    );
+}
+
+fn straying_ids() {
+    let max = u32::MAX;
+    let over = CAPACITY as u32 + 1;
+    let strays = |name: &str, changes: &[(usize, u32)]| damaged(name, 2, changes, 0..0);
+    strays(
+        "5 given, all known",
+        &[
+            (GRAPH_GIVEN, over),
+            (GRAPH_FREED, 3),
+            (free(1), 3),
+            (free(2), 4),
+        ],
+    );
+    strays("5 listed", &[(GRAPH_LISTED, over)]);
+    strays("5 free", &[(GRAPH_FREED, over)]);
+    strays("largest given", &[(GRAPH_GIVEN, max)]);
+    strays("largest listed", &[(GRAPH_LISTED, max)]);
+    strays("largest free", &[(GRAPH_FREED, max)]);
+    strays("free twice", &[(GRAPH_FREED, 2), (free(1), 1)]);
+    strays("free and standing", &[(GRAPH_FREED, 2), (free(1), 0)]);
+    strays(
+        "free and listed",
+        &[
+            (GRAPH_LISTED, 3),
+            (listed(2), 1),
+            (at(1, CONTACT_PAIR_INDEX), 2),
+        ],
+    );
     strays(
         "free and listed, another's place",
-        &[(2, 3), (6, 1), (541, 0)],
+        &[
+            (GRAPH_LISTED, 3),
+            (listed(2), 1),
+            (at(1, CONTACT_PAIR_INDEX), 0),
+        ],
     );
-    strays("neither, none free", &[(3, 0)]);
-    strays("neither, one more given", &[(1, 4)]);
+    strays("neither, none free", &[(GRAPH_FREED, 0)]);
+    strays("neither, one more given", &[(GRAPH_GIVEN, 4)]);
     strays(
         "listed, never given",
-        &[(2, 3), (6, 3), (1581, 1), (1582, 2), (1587, 2)],
+        &[
+            (GRAPH_LISTED, 3),
+            (listed(2), 3),
+            (at(3, CONTACT_COLLIDER1), 1),
+            (at(3, CONTACT_COLLIDER2), 2),
+            (at(3, CONTACT_PAIR_INDEX), 2),
+        ],
     );
-    strays("largest listed id", &[(5, max)]);
-    strays("free, never given", &[(3, 2), (9, 3)]);
-    strays("largest free id", &[(3, 2), (9, max)]);
-    strays("pair twice", &[(1058, 10), (1059, 20)]);
-    strays("pair twice, turned", &[(1058, 20), (1059, 10)]);
+    strays("largest listed id", &[(listed(1), max)]);
+    strays("free, never given", &[(GRAPH_FREED, 2), (free(1), 3)]);
+    strays("largest free id", &[(GRAPH_FREED, 2), (free(1), max)]);
+    strays("pair twice", &pair(2, 10, 20));
+    strays("pair twice, turned", &pair(2, 20, 10));
     strays(
         "lone collider twice",
-        &[(12, 7), (13, 7), (1058, 7), (1059, 7)],
+        &[pair(0, 7, 7), pair(2, 7, 7)].concat(),
     );
-    strays("place of the other", &[(18, 1)]);
-    strays("place past the list", &[(18, 2)]);
-    strays("largest place", &[(1064, max)]);
-    strays("listed twice", &[(5, 0)]);
-    strays("list turned", &[(4, 2), (5, 0)]);
+    strays("place of the other", &[(at(0, CONTACT_PAIR_INDEX), 1)]);
+    strays("place past the list", &[(at(0, CONTACT_PAIR_INDEX), 2)]);
+    strays("largest place", &[(at(2, CONTACT_PAIR_INDEX), max)]);
+    strays("listed twice", &[(listed(1), 0)]);
+    strays("list turned", &[(listed(0), 2), (listed(1), 0)]);
+}
 
+// What is not refused: limits that are met, and words that record nothing.
+fn standing() {
+    let (manifolds, stored) = (MANIFOLDS as u32, STORED_POINTS as u32);
     let stays = |name: &str, changes: &[(usize, u32)]| damaged(name, 0, changes, 0..0);
     let filled = |name: &str, changes: &[(usize, u32)], places| damaged(name, 0, changes, places);
     stays("as built", &[]);
-    stays("last collider and body", &[(12, 255), (15, 127)]);
-    stays("lone collider once", &[(12, 7), (13, 7)]);
     stays(
-        "6 manifolds of 4 points",
+        "last collider and body",
         &[
-            (48, 6),
-            (49, 4),
-            (130, 4),
-            (211, 4),
-            (292, 4),
-            (373, 4),
-            (454, 4),
+            (at(0, CONTACT_COLLIDER1), COLLIDERS as u32 - 1),
+            (at(0, CONTACT_BODY1_NUMBER), BODIES as u32 - 1),
         ],
     );
-    filled("count change and distance", &[], 30..32);
-    filled("list past its count", &[], 6..8);
-    stays("list past its count, a standing id", &[(6, 0)]);
-    filled("free past their count", &[], 9..12);
-    stays("free past their count, a standing id", &[(9, 0)]);
-    filled("record of a free id", &[], 535..1058);
-    stays("place of a free id", &[(541, 0)]);
-    filled("record never given", &[], 1581..2104);
-    stays("body behind 0", &[(17, 5000)]);
-    filled("cache behind 0", &[], 33..48);
-    filled("cache behind 1", &[(32, 1)], 33..48);
-    filled("points past 1", &[(48, 1), (49, 1)], 76..130);
-    filled("manifolds past 0", &[], 49..535);
-    filled("manifolds past 1", &[(48, 1), (49, 4)], 130..535);
+    stays("lone collider once", &pair(0, 7, 7));
+    let count = at(0, CONTACT_MANIFOLDS);
+    let mut full = vec![(count, manifolds)];
+    full.extend((0..MANIFOLDS).map(|m| (points(m), stored)));
+    stays("6 manifolds of 4 points", &full);
+    filled(
+        "count change and distance",
+        &[],
+        at(0, CONTACT_COUNT_CHANGE)..at(0, CONTACT_CACHE),
+    );
+    filled("list past its count", &[], listed(2)..listed(CAPACITY));
+    stays("list past its count, a standing id", &[(listed(2), 0)]);
+    filled("free past their count", &[], free(1)..free(CAPACITY));
+    stays("free past their count, a standing id", &[(free(1), 0)]);
+    filled("record of a free id", &[], at(1, 0)..at(1, CONTACT_SIZE));
+    stays("place of a free id", &[(at(1, CONTACT_PAIR_INDEX), 0)]);
+    filled("record never given", &[], at(3, 0)..at(3, CONTACT_SIZE));
+    stays("body behind 0", &[(at(0, CONTACT_BODY2_NUMBER), 5000)]);
+    let cached = at(0, CONTACT_CACHED)..count;
+    filled("cache behind 0", &[], cached.clone());
+    filled("cache behind 1", &[(at(0, CONTACT_CACHE), 1)], cached);
+    let end = at(0, CONTACT_SIZE);
+    let second = at(0, contact_manifold(1));
+    filled(
+        "points past 1",
+        &[(count, 1), (points(0), 1)],
+        at(0, contact_point(0, 1))..second,
+    );
+    filled("manifolds past 0", &[], at(0, CONTACT_FIRST_MANIFOLD)..end);
+    filled(
+        "manifolds past 1",
+        &[(count, 1), (points(0), stored)],
+        second..end,
+    );
 }
 
 fn main() {

@@ -3,6 +3,12 @@
 # ('Prune listing', 'Matching and pruning', 'Float leaves'). Run from the repository's root; it uses no code of it.
 import math, os, re, struct
 
+# ---- limits: the points that pruning leaves and takes at most, the bytes of a listing
+
+STORED_POINTS = 4
+PROPOSED_POINTS = 32
+MOST_BYTES = 65536
+
 # ---- floats: each operation on doubles, rounded once to 32 bits (exact, since 53 >= 2 * 24 + 2)
 
 def rounded(x):
@@ -55,13 +61,13 @@ LISTING = re.compile(rb'N((?:%s){3})((?:\nP(?:%s){4})*)\n?' % (WORD, WORD))
 
 def answer(text):
     found = LISTING.fullmatch(text)
-    if found is None or len(text) > 65536:
+    if found is None or len(text) > MOST_BYTES:
         return 'R\t1\n'
     floats = lambda fields: [of_bits(int(f, 16)) for f in fields.split(b'\t')[1:]]
     points = [floats(line) for line in found[2].split(b'\nP')[1:]]
-    if len(points) < 5:
+    if len(points) <= STORED_POINTS:
         return 'R\t8\n'
-    if len(points) > 32:
+    if len(points) > PROPOSED_POINTS:
         return 'R\t6\n'
     return ''.join('K\t%d\n' % k for k in prune(floats(found[1]), points))
 
@@ -86,20 +92,21 @@ def scattered(n):
 
 OBLIQUE = [0.48, -0.6, 0.64]
 C1 = text(UP, SQUARE)
-MANY = text(OBLIQUE, scattered(33))
+OVER = PROPOSED_POINTS + 1
+MANY = text(OBLIQUE, scattered(OVER))
 
 CASES = {
     'c1': C1,
     'c2_five_equal': text(UP, [SQUARE[0]] * 5),
     'c3_two_equal': text(UP, SQUARE[:3] + [SQUARE[2]] + SQUARE[4:]),
     'c4_nan': text([NAN] * 3, [[NAN] * 4] * 5),
-    'four_points': text(UP, SQUARE[:4]),
-    '32_points': text(OBLIQUE, scattered(32)),
-    '33_points': MANY,
+    'four_points': text(UP, SQUARE[:STORED_POINTS]),
+    '%d_points' % PROPOSED_POINTS: text(OBLIQUE, scattered(PROPOSED_POINTS)),
+    '%d_points' % OVER: MANY,
     'normal_alone': line('N', UP),
     'lower_case': C1.replace('A', 'a').replace('B', 'b').replace('C', 'c').replace('F', 'f'),
     'last_feed_missing': C1[:-1],
-    'unreadable_after_33': MANY + 'P\t00000000\n',
+    'unreadable_after_%d' % OVER: MANY + 'P\t00000000\n',
     'carriage_return': C1.replace('\n', '\r\n'),
     'empty': '',
     'empty_line': C1 + '\n',

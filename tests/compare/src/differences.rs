@@ -5,6 +5,7 @@
 //! - a manifold's friction and restitution, if the pair's last full update combined them by the minimum or the maximum;
 //! - the reported contact distance, the margins' sum plus the result of a maximum.
 
+use reference::layout::*;
 use reference::{
     self, CoefficientCombine, CollisionEvent, ContactEdge, ContactEdgeFlags, ContactManifold,
     ContactPair, ContactPairFlags, ContactPoint, ContactRecyclingCache, ContactStatusChange,
@@ -318,14 +319,14 @@ pub fn written(
     same("number of events", ours.len(), theirs.len())?;
     for (k, (a, b)) in ours.zip(theirs).enumerate() {
         same("view", a, b).map_err(|d| d.within("event", k))?;
-        let words = &library.events_words()[8 * k..][..8];
+        let words = &library.events_words()[EVENT_SIZE * k..][..EVENT_SIZE];
         same("words", &event_words(&a)[..], words).map_err(|d| d.within("event", k))?;
     }
     let (ours, theirs) = (changes.iter().map(change), library.changes());
     same("number of changes", ours.len(), theirs.len())?;
     for (k, (a, b)) in ours.zip(theirs).enumerate() {
         same("view", a, b).map_err(|d| d.within("change", k))?;
-        let words = &library.changes_words()[5 * k..][..5];
+        let words = &library.changes_words()[CHANGE_SIZE * k..][..CHANGE_SIZE];
         same("words", &change_words(&a)[..], words).map_err(|d| d.within("change", k))?;
     }
     same(
@@ -375,8 +376,8 @@ fn event(event: &CollisionEvent) -> Event {
     }
 }
 
-/// Kind, id, colliders, bodies: mark and number, 0 and 0 where there is none.
-fn event_words(event: &Event) -> [u32; 8] {
+/// Bodies are a mark and a number, 0 and 0 where there is none.
+fn event_words(event: &Event) -> [u32; EVENT_SIZE] {
     let (kind, contact, colliders, bodies) = match *event {
         Event::Started {
             contact,
@@ -384,41 +385,55 @@ fn event_words(event: &Event) -> [u32; 8] {
             collider2,
             body1,
             body2,
-        } => (0, contact, [collider1, collider2], [body1, body2]),
+        } => (
+            EVENT_STARTED,
+            contact,
+            [collider1, collider2],
+            [body1, body2],
+        ),
         Event::Ended {
             contact,
             collider1,
             collider2,
             body1,
             body2,
-        } => (1, contact, [collider1, collider2], [body1, body2]),
+        } => (EVENT_ENDED, contact, [collider1, collider2], [body1, body2]),
     };
-    let [[mark1, number1], [mark2, number2]] = bodies.map(|body| match body {
-        Some(number) => [1, number],
-        None => [0, 0],
-    });
-    let [collider1, collider2] = colliders;
-    [
-        kind, contact.0, collider1, collider2, mark1, number1, mark2, number2,
-    ]
+    let mut words = [0; EVENT_SIZE];
+    words[EVENT_KIND] = kind;
+    words[EVENT_CONTACT] = contact.0;
+    [words[EVENT_COLLIDER1], words[EVENT_COLLIDER2]] = colliders;
+    for (mark, body) in [EVENT_BODY1, EVENT_BODY2].into_iter().zip(bodies) {
+        if let Some(number) = body {
+            words[mark] = 1;
+            words[mark + 1] = number;
+        }
+    }
+    words
 }
 
-/// Kind, id, bodies, change of the count: 0 where it says nothing.
-fn change_words(change: &Change) -> [u32; 5] {
-    match *change {
-        Change::Start { contact } => [0, contact.0, 0, 0, 0],
+/// 0 where it says nothing.
+fn change_words(change: &Change) -> [u32; CHANGE_SIZE] {
+    let (kind, contact, bodies, delta) = match *change {
+        Change::Start { contact } => (CHANGE_START, contact, [0, 0], 0),
         Change::Stop {
             contact,
             body1,
             body2,
-        } => [1, contact.0, body1, body2, 0],
+        } => (CHANGE_STOP, contact, [body1, body2], 0),
         Change::Count {
             contact,
             body1,
             body2,
             delta,
-        } => [2, contact.0, body1, body2, delta as u32],
-    }
+        } => (CHANGE_COUNT, contact, [body1, body2], delta),
+    };
+    let mut words = [0; CHANGE_SIZE];
+    words[CHANGE_KIND] = kind;
+    words[CHANGE_CONTACT] = contact.0;
+    [words[CHANGE_BODY1], words[CHANGE_BODY2]] = bodies;
+    words[CHANGE_DELTA] = delta as u32;
+    words
 }
 
 fn change(change: &ContactStatusChange) -> Change {
@@ -451,14 +466,16 @@ fn change(change: &ContactStatusChange) -> Change {
 
 /// Bit `id` of part w is set exactly if worker w lists the contact and its update sets its bit; all other bits are 0.
 pub fn bits(reference: &NarrowPhase, capacity: usize, library: &[u64]) -> Compared {
-    let words = capacity.div_ceil(64);
-    same("bit words", 8 * words, library.len())?;
+    let words = bit_words(capacity);
+    same("bit words", MOST_WORKERS * words, library.len())?;
     for (worker, part) in library.chunks(words).enumerate() {
         let context = reference.thread_locals.get(worker);
         for (k, word) in part.iter().enumerate() {
             let set =
-                |bit: &usize| context.is_some_and(|c| c.contact_status_bits.get(64 * k + bit));
-            let expected = (0..64).filter(set).fold(0u64, |word, bit| word | 1 << bit);
+                |bit: &usize| context.is_some_and(|c| c.contact_status_bits.get(BITS * k + bit));
+            let expected = (0..BITS)
+                .filter(set)
+                .fold(0u64, |word, bit| word | 1 << bit);
             same("bits", expected, *word)
                 .map_err(|d| d.within("word", k).within("worker", worker))?;
         }

@@ -2,12 +2,8 @@
 //! order whose condition holds, or 0. Each condition is counted where it is the first that holds.
 
 use crate::branches::condition;
+use reference::layout::*;
 use std::collections::HashSet;
-
-const CONTACT: usize = 523;
-const COLLIDER: usize = 23;
-const BODY: usize = 26;
-const PROPOSAL: usize = 2330;
 
 /// What a step is lent: the rows that are read, the graph, and the lengths of the rows that are written.
 #[derive(Clone, Copy)]
@@ -47,13 +43,14 @@ pub fn add(graph: &[u32], request: &[u32], answer: usize) -> u32 {
     if graph_strays(graph) || request_strays(request) {
         return 2;
     }
-    if request[0] == request[1] {
+    let [collider1, collider2] = [request[REQUEST_COLLIDER1], request[REQUEST_COLLIDER2]];
+    if collider1 == collider2 {
         return 3;
     }
-    if pair_stands(graph, request[0], request[1]) {
+    if pair_stands(graph, collider1, collider2) {
         return 4;
     }
-    if listed(graph).len() == graph[0] as usize {
+    if listed(graph).len() == capacity(graph) {
         return 5;
     }
     0
@@ -64,14 +61,14 @@ pub fn step(rows: &StepRows) -> u32 {
         return 1;
     }
     if settings_stray(rows.settings)
-        || rows.colliders.chunks(COLLIDER).any(collider_strays)
-        || rows.bodies.chunks(BODY).any(body_strays)
+        || rows.colliders.chunks(COLLIDER_SIZE).any(collider_strays)
+        || rows.bodies.chunks(BODY_SIZE).any(body_strays)
         || graph_strays(rows.graph)
     {
         return 2;
     }
     let active = listed(rows.graph);
-    let proposal = |id: &u32| &rows.proposals[PROPOSAL * *id as usize..][..PROPOSAL];
+    let proposal = |id: &u32| &rows.proposals[PROPOSAL_SIZE * *id as usize..][..PROPOSAL_SIZE];
     if active.iter().any(|id| hook_strays(proposal(id))) {
         return 2;
     }
@@ -85,7 +82,7 @@ pub fn step(rows: &StepRows) -> u32 {
 }
 
 pub fn look_up(graph: &[u32], id: u32, answer: usize) -> u32 {
-    if answer != 10 {
+    if answer != LOOK_UP_ANSWER_LENGTH {
         condition!("table 1: look up's answer");
         return 1;
     }
@@ -109,41 +106,45 @@ pub fn prune(normal: usize, points: usize, count: u32, answer: usize) -> u32 {
     if prune_misfits(normal, points, answer) {
         return 1;
     }
-    match count {
-        0..=4 => 8,
-        5..=32 => 0,
-        _ => 6,
+    let count = count as usize;
+    if count <= STORED_POINTS {
+        return 8;
     }
+    if count > PROPOSED_POINTS {
+        return 6;
+    }
+    0
 }
 
 // ---- 1: lengths.
 
 /// The lengths of a step's rows, in the order of its arguments.
-pub fn lengths(capacity: usize) -> [usize; 10] {
+pub fn lengths(capacity: usize) -> [usize; LENGTHS_LENGTH] {
     [
-        10,
-        256 * COLLIDER,
-        128 * BODY,
-        PROPOSAL * capacity,
-        9 + capacity,
-        4 + 2 * capacity + CONTACT * capacity,
-        8 * capacity.div_ceil(64),
-        8 * capacity,
-        5 * capacity,
+        SETTINGS_LENGTH,
+        COLLIDERS * COLLIDER_SIZE,
+        BODIES * BODY_SIZE,
+        capacity * PROPOSAL_SIZE,
+        SHARES_ENTRIES + capacity,
+        graph_length(capacity),
+        MOST_WORKERS * bit_words(capacity),
+        capacity * EVENT_SIZE,
+        capacity * CHANGE_SIZE,
         capacity,
     ]
 }
 
 fn capacity_misfits(graph: usize, capacity: u32) -> bool {
+    let capacity = capacity as usize;
     any_of! {
         capacity == 0 => "table 1: capacity 0",
-        capacity > 256 => "table 1: capacity over 256",
-        graph != lengths(capacity as usize)[5] => "table 1: graph",
+        capacity > MOST_CONTACTS => "table 1: capacity too large",
+        graph != graph_length(capacity) => "table 1: graph",
     }
 }
 
 fn graph_misfits(graph: &[u32]) -> bool {
-    let Some(capacity) = graph.first() else {
+    let Some(capacity) = graph.get(GRAPH_CAPACITY) else {
         condition!("table 1: graph without a capacity");
         return true;
     };
@@ -152,8 +153,8 @@ fn graph_misfits(graph: &[u32]) -> bool {
 
 fn addition_misfits(request: &[u32], answer: usize) -> bool {
     any_of! {
-        request.len() != 9 => "table 1: request",
-        answer != 1 => "table 1: addition's answer",
+        request.len() != REQUEST_LENGTH => "table 1: request",
+        answer != ADD_ANSWER_LENGTH => "table 1: addition's answer",
     }
 }
 
@@ -169,7 +170,7 @@ fn step_misfits(rows: &StepRows) -> bool {
         events,
         changes,
         distances,
-    ] = lengths(rows.graph[0] as usize);
+    ] = lengths(capacity(rows.graph));
     any_of! {
         rows.settings.len() != settings => "table 1: settings",
         rows.colliders.len() != colliders => "table 1: colliders",
@@ -180,15 +181,15 @@ fn step_misfits(rows: &StepRows) -> bool {
         rows.events != events => "table 1: events",
         rows.changes != changes => "table 1: changes",
         rows.distances != distances => "table 1: distances",
-        rows.answer != 3 => "table 1: step's answer",
+        rows.answer != STEP_ANSWER_LENGTH => "table 1: step's answer",
     }
 }
 
 fn prune_misfits(normal: usize, points: usize, answer: usize) -> bool {
     any_of! {
-        normal != 3 => "table 1: normal",
-        points != 128 => "table 1: points to prune",
-        answer != 5 => "table 1: prune's answer",
+        normal != PRUNE_NORMAL_LENGTH => "table 1: normal",
+        points != PRUNE_POINTS_LENGTH => "table 1: points to prune",
+        answer != PRUNE_ANSWER_LENGTH => "table 1: prune's answer",
     }
 }
 
@@ -199,36 +200,41 @@ fn is_no_mark(word: u32) -> bool {
 }
 
 fn is_no_rule(word: u32) -> bool {
-    !(1..=5).contains(&word)
+    !(1..=RULES).contains(&(word as usize))
 }
 
-fn is_no_body(mark: u32, number: u32) -> bool {
-    mark == 1 && number >= 128
+fn is_no_collider(number: u32) -> bool {
+    number as usize >= COLLIDERS
+}
+
+/// The number behind a mark, where that is 1.
+fn is_no_body(record: &[u32], mark: usize) -> bool {
+    record[mark] == 1 && record[mark + 1] as usize >= BODIES
 }
 
 fn request_strays(request: &[u32]) -> bool {
     any_of! {
-        request[0] >= 256 => "table 2: request's collider 1",
-        request[1] >= 256 => "table 2: request's collider 2",
-        is_no_mark(request[2]) => "table 2: request's mark of body 1",
-        is_no_body(request[2], request[3]) => "table 2: request's body 1",
-        is_no_mark(request[4]) => "table 2: request's mark of body 2",
-        is_no_body(request[4], request[5]) => "table 2: request's body 2",
-        is_no_mark(request[6]) => "table 2: request's event mark",
-        is_no_mark(request[7]) => "table 2: request's modify mark",
+        is_no_collider(request[REQUEST_COLLIDER1]) => "table 2: request's collider 1",
+        is_no_collider(request[REQUEST_COLLIDER2]) => "table 2: request's collider 2",
+        is_no_mark(request[REQUEST_BODY1]) => "table 2: request's mark of body 1",
+        is_no_body(request, REQUEST_BODY1) => "table 2: request's body 1",
+        is_no_mark(request[REQUEST_BODY2]) => "table 2: request's mark of body 2",
+        is_no_body(request, REQUEST_BODY2) => "table 2: request's body 2",
+        is_no_mark(request[REQUEST_CONTACT_EVENTS]) => "table 2: request's event mark",
+        is_no_mark(request[REQUEST_MODIFY_CONTACTS]) => "table 2: request's modify mark",
     }
 }
 
 fn settings_stray(settings: &[u32]) -> bool {
     any_of! {
-        is_no_mark(settings[5]) => "table 2: matching mark",
-        is_no_rule(settings[7]) => "table 2: default friction's rule",
-        is_no_rule(settings[9]) => "table 2: default restitution's rule",
+        is_no_mark(settings[SETTINGS_MATCH_CONTACTS]) => "table 2: matching mark",
+        is_no_rule(settings[SETTINGS_FRICTION_RULE]) => "table 2: default friction's rule",
+        is_no_rule(settings[SETTINGS_RESTITUTION_RULE]) => "table 2: default restitution's rule",
     }
 }
 
 fn collider_strays(collider: &[u32]) -> bool {
-    match collider[0] {
+    match collider[PRESENCE] {
         0 => false,
         1 => present_collider_strays(collider),
         _ => any_of! { true => "table 2: collider's presence mark" },
@@ -236,20 +242,23 @@ fn collider_strays(collider: &[u32]) -> bool {
 }
 
 fn present_collider_strays(collider: &[u32]) -> bool {
+    let [friction, restitution] = [collider[COLLIDER_FRICTION], collider[COLLIDER_RESTITUTION]];
+    let friction_rule = collider[COLLIDER_FRICTION_RULE];
+    let restitution_rule = collider[COLLIDER_RESTITUTION_RULE];
     any_of! {
-        is_no_mark(collider[1]) => "table 2: collider's mark of a body",
-        is_no_body(collider[1], collider[2]) => "table 2: collider's body",
-        is_no_mark(collider[14]) => "table 2: collider's friction mark",
-        collider[14] == 1 && is_no_rule(collider[16]) => "table 2: collider's friction rule",
-        is_no_mark(collider[17]) => "table 2: collider's restitution mark",
-        collider[17] == 1 && is_no_rule(collider[19]) => "table 2: collider's restitution rule",
-        is_no_mark(collider[20]) => "table 2: collider's margin mark",
-        is_no_mark(collider[22]) => "table 2: sensor mark",
+        is_no_mark(collider[COLLIDER_BODY]) => "table 2: collider's mark of a body",
+        is_no_body(collider, COLLIDER_BODY) => "table 2: collider's body",
+        is_no_mark(friction) => "table 2: collider's friction mark",
+        friction == 1 && is_no_rule(friction_rule) => "table 2: collider's friction rule",
+        is_no_mark(restitution) => "table 2: collider's restitution mark",
+        restitution == 1 && is_no_rule(restitution_rule) => "table 2: collider's restitution rule",
+        is_no_mark(collider[COLLIDER_MARGIN]) => "table 2: collider's margin mark",
+        is_no_mark(collider[COLLIDER_SENSOR]) => "table 2: sensor mark",
     }
 }
 
 fn body_strays(body: &[u32]) -> bool {
-    match body[0] {
+    match body[PRESENCE] {
         0 => false,
         1 => present_body_strays(body),
         _ => any_of! { true => "table 2: body's presence mark" },
@@ -257,42 +266,52 @@ fn body_strays(body: &[u32]) -> bool {
 }
 
 fn present_body_strays(body: &[u32]) -> bool {
+    let [friction, rule] = [body[BODY_FRICTION], body[BODY_FRICTION_RULE]];
     any_of! {
-        is_no_mark(body[1]) => "table 2: static mark",
-        is_no_mark(body[18]) => "table 2: body's friction mark",
-        body[18] == 1 && is_no_rule(body[20]) => "table 2: body's friction rule",
-        is_no_mark(body[21]) => "table 2: body's margin mark",
-        is_no_mark(body[23]) => "table 2: mark of a speculative maximum",
+        is_no_mark(body[BODY_STATIC]) => "table 2: static mark",
+        is_no_mark(friction) => "table 2: body's friction mark",
+        friction == 1 && is_no_rule(rule) => "table 2: body's friction rule",
+        is_no_mark(body[BODY_MARGIN]) => "table 2: body's margin mark",
+        is_no_mark(body[BODY_SPECULATIVE_MAXIMUM]) => "table 2: mark of a speculative maximum",
     }
 }
 
 fn hook_strays(proposal: &[u32]) -> bool {
-    any_of! { is_no_mark(proposal[0]) => "table 2: hook's answer" }
+    any_of! { is_no_mark(proposal[PROPOSAL_HOOK]) => "table 2: hook's answer" }
 }
 
 // ---- 2: the graph.
 
+fn capacity(graph: &[u32]) -> usize {
+    graph[GRAPH_CAPACITY] as usize
+}
+
 fn listed(graph: &[u32]) -> &[u32] {
-    &graph[4..4 + graph[2] as usize]
+    &graph[GRAPH_LIST..][..graph[GRAPH_LISTED] as usize]
 }
 
 fn free(graph: &[u32]) -> &[u32] {
-    &graph[4 + graph[0] as usize..][..graph[3] as usize]
+    &graph[graph_free(capacity(graph))..][..graph[GRAPH_FREED] as usize]
 }
 
 fn record(graph: &[u32], id: u32) -> &[u32] {
-    &graph[4 + 2 * graph[0] as usize + CONTACT * id as usize..][..CONTACT]
+    &graph[graph_record(capacity(graph), id as usize)..][..CONTACT_SIZE]
+}
+
+fn colliders(graph: &[u32], id: u32) -> (u32, u32) {
+    let contact = record(graph, id);
+    (contact[CONTACT_COLLIDER1], contact[CONTACT_COLLIDER2])
 }
 
 /// The lower and the higher collider.
 fn pair_of(graph: &[u32], id: u32) -> (u32, u32) {
-    let contact = record(graph, id);
-    (contact[0].min(contact[1]), contact[0].max(contact[1]))
+    let (a, b) = colliders(graph, id);
+    (a.min(b), a.max(b))
 }
 
 fn graph_strays(graph: &[u32]) -> bool {
     counts_stray(graph)
-        || ids_stray(graph[1], listed(graph), free(graph))
+        || ids_stray(graph[GRAPH_GIVEN], listed(graph), free(graph))
         || list_strays(graph)
         || listed(graph)
             .iter()
@@ -300,7 +319,8 @@ fn graph_strays(graph: &[u32]) -> bool {
 }
 
 fn counts_stray(graph: &[u32]) -> bool {
-    let [capacity, given, pairs, freed] = [graph[0], graph[1], graph[2], graph[3]];
+    let head = [GRAPH_CAPACITY, GRAPH_GIVEN, GRAPH_LISTED, GRAPH_FREED];
+    let [capacity, given, pairs, freed] = head.map(|place| graph[place]);
     any_of! {
         given > capacity => "table 2: ids given over the capacity",
         pairs > capacity => "table 2: listed pairs over the capacity",
@@ -335,7 +355,7 @@ fn ids_stray(given: u32, listed: &[u32], free: &[u32]) -> bool {
 /// An entry and its contact name each other by the entry's place; of an id that is listed twice one place is another.
 fn list_and_contacts_disagree(graph: &[u32]) -> bool {
     let mut entries = listed(graph).iter().enumerate();
-    entries.any(|(place, id)| record(graph, *id)[6] as usize != place)
+    entries.any(|(place, id)| record(graph, *id)[CONTACT_PAIR_INDEX] as usize != place)
 }
 
 fn pair_stands_twice(graph: &[u32]) -> bool {
@@ -345,21 +365,23 @@ fn pair_stands_twice(graph: &[u32]) -> bool {
 }
 
 fn contact_strays(contact: &[u32]) -> bool {
-    if let Some(mark) = contact[7..18].iter().position(|mark| is_no_mark(*mark)) {
+    let marks = &contact[CONTACT_EDGE_FLAGS..CONTACT_COUNT_CHANGE];
+    if let Some(mark) = marks.iter().position(|mark| is_no_mark(*mark)) {
         condition!("table 2: contact's mark 1" + mark);
         return true;
     }
-    let manifolds = contact[36] as usize;
+    let manifolds = contact[CONTACT_MANIFOLDS] as usize;
+    let points = |m: usize| contact[contact_manifold(m) + MANIFOLD_COUNT] as usize;
     any_of! {
-        contact[0] >= 256 => "table 2: contact's collider 1",
-        contact[1] >= 256 => "table 2: contact's collider 2",
-        is_no_mark(contact[2]) => "table 2: contact's mark of body 1",
-        is_no_body(contact[2], contact[3]) => "table 2: contact's body 1",
-        is_no_mark(contact[4]) => "table 2: contact's mark of body 2",
-        is_no_body(contact[4], contact[5]) => "table 2: contact's body 2",
-        is_no_mark(contact[20]) => "table 2: contact's mark of a cache",
-        manifolds > 6 => "table 2: over 6 stored manifolds",
-        (0..manifolds).any(|m| contact[37 + 81 * m] > 4) => "table 2: over 4 stored points",
+        is_no_collider(contact[CONTACT_COLLIDER1]) => "table 2: contact's collider 1",
+        is_no_collider(contact[CONTACT_COLLIDER2]) => "table 2: contact's collider 2",
+        is_no_mark(contact[CONTACT_BODY1]) => "table 2: contact's mark of body 1",
+        is_no_body(contact, CONTACT_BODY1) => "table 2: contact's body 1",
+        is_no_mark(contact[CONTACT_BODY2]) => "table 2: contact's mark of body 2",
+        is_no_body(contact, CONTACT_BODY2) => "table 2: contact's body 2",
+        is_no_mark(contact[CONTACT_CACHE]) => "table 2: contact's mark of a cache",
+        manifolds > MANIFOLDS => "table 2: too many stored manifolds",
+        (0..manifolds).any(|m| points(m) > STORED_POINTS) => "table 2: too many stored points",
     }
 }
 
@@ -367,7 +389,7 @@ fn contact_strays(contact: &[u32]) -> bool {
 
 fn pair_stands(graph: &[u32], collider1: u32, collider2: u32) -> bool {
     let stands = |a: u32, b: u32| {
-        let named = |id: &u32| record(graph, *id)[..2] == [a, b];
+        let named = |id: &u32| colliders(graph, *id) == (a, b);
         listed(graph).iter().any(named)
     };
     any_of! {
@@ -377,25 +399,27 @@ fn pair_stands(graph: &[u32], collider1: u32, collider2: u32) -> bool {
 }
 
 fn overfull(proposal: &[u32]) -> bool {
-    let count = proposal[1] as usize;
+    let count = proposal[PROPOSAL_COUNT] as usize;
+    let points = |m: usize| proposal[proposed_manifold(m) + PROPOSED_MANIFOLD_COUNT] as usize;
     any_of! {
-        count > 6 => "table 6: over 6 manifolds",
-        (0..count).any(|m| proposal[2 + 388 * m] > 32) => "table 6: over 32 points",
+        count > MANIFOLDS => "table 6: too many manifolds",
+        (0..count).any(|m| points(m) > PROPOSED_POINTS) => "table 6: too many points",
     }
 }
 
 fn shares_bad(shares: &[u32], active: &[u32]) -> bool {
-    let workers = shares[0] as usize;
-    if workers == 0 || workers > 8 {
+    let workers = shares[SHARES_WORKERS] as usize;
+    if workers == 0 || workers > MOST_WORKERS {
         condition!(if (workers == 0) {
             "table 7: no worker"
         } else {
-            "table 7: over 8 workers"
+            "table 7: too many workers"
         });
         return true;
     }
-    let total: u64 = shares[1..1 + workers].iter().map(|n| u64::from(*n)).sum();
-    let entries = &shares[9..];
+    let counts = &shares[SHARES_COUNTS..][..workers];
+    let total: u64 = counts.iter().map(|n| u64::from(*n)).sum();
+    let entries = &shares[SHARES_ENTRIES..];
     if total > entries.len() as u64 {
         condition!("table 7: more listed than the capacity");
         return true;
@@ -411,7 +435,7 @@ fn shares_bad(shares: &[u32], active: &[u32]) -> bool {
 
 fn not_standing(graph: &[u32], id: u32) -> bool {
     any_of! {
-        id >= graph[1] => "table 9: an id never given",
+        id >= graph[GRAPH_GIVEN] => "table 9: an id never given",
         !listed(graph).contains(&id) => "table 9: a free id",
     }
 }

@@ -7,6 +7,7 @@ use crate::draws::StepSettings;
 use crate::encode;
 use crate::oracle::{self, StepRows};
 use crate::refusals::{Call, Refusals};
+use reference::layout::*;
 use reference::*;
 use sardinerod::{Addition, PrunePoint, Refusal, Shares, World};
 
@@ -35,8 +36,8 @@ impl Sides {
         let mut sides = Self {
             capacity,
             narrow_phase: NarrowPhase {
-                collider_query: Query(vec![None; 256]),
-                body_query: Query(vec![None; 128]),
+                collider_query: Query(vec![None; COLLIDERS]),
+                body_query: Query(vec![None; BODIES]),
                 contact_graph: ContactGraph::default(),
                 contact_status_changes: vec![],
                 contact_status_bits: BitVec::default(),
@@ -122,7 +123,7 @@ impl Sides {
             events: self.graph.events_words().len(),
             changes: self.graph.changes_words().len(),
             distances: self.graph.distances_words().len(),
-            answer: 3,
+            answer: STEP_ANSWER_LENGTH,
         }
     }
 
@@ -139,7 +140,8 @@ impl Sides {
     }
 
     pub fn add(&mut self, addition: &Addition, refusals: &mut Refusals) -> Compared {
-        let expected = oracle::add(self.graph.words(), &request(addition), 1);
+        let request = request(addition);
+        let expected = oracle::add(self.graph.words(), &request, ADD_ANSWER_LENGTH);
         let before = (expected != 0).then(|| self.graph.clone());
         let answer = self.graph.add(addition);
         refusals.note(Call::Add, number(&answer));
@@ -166,7 +168,7 @@ impl Sides {
     }
 
     pub fn look_up(&self, id: ContactId, refusals: &mut Refusals) -> Compared {
-        let expected = oracle::look_up(self.graph.words(), id.0, 10);
+        let expected = oracle::look_up(self.graph.words(), id.0, LOOK_UP_ANSWER_LENGTH);
         let answer = self.graph.look_up(sardinerod::ContactId(id.0));
         refusals.note(Call::LookUp, number(&answer));
         same("answer of a look up", expected, number(&answer))?;
@@ -266,7 +268,12 @@ pub fn prune(manifold: &ContactManifold, refusals: &mut Refusals) -> Compared {
         .collect();
     let answer = sardinerod::prune(encode::vector(manifold.normal), &points);
     refusals.note(Call::Prune, number(&answer));
-    let expected = oracle::prune(3, 128, points.len() as u32, 5);
+    let expected = oracle::prune(
+        PRUNE_NORMAL_LENGTH,
+        PRUNE_POINTS_LENGTH,
+        points.len() as u32,
+        PRUNE_ANSWER_LENGTH,
+    );
     same("answer of a prune", expected, number(&answer))?;
     let Ok(kept) = answer else {
         return Ok(());
@@ -284,7 +291,7 @@ pub fn prune(manifold: &ContactManifold, refusals: &mut Refusals) -> Compared {
 pub fn empty_graph(capacity: u32, refusals: &mut Refusals) -> Compared {
     let answer = sardinerod::ContactGraph::new(capacity);
     refusals.note(Call::LayOut, number(&answer));
-    let length = oracle::lengths(capacity.clamp(1, 256) as usize)[5];
+    let length = graph_length((capacity as usize).clamp(1, MOST_CONTACTS));
     same(
         "answer of an empty graph",
         oracle::lay_out(length, capacity),
@@ -294,7 +301,7 @@ pub fn empty_graph(capacity: u32, refusals: &mut Refusals) -> Compared {
         return Ok(());
     };
     let mut words = vec![0; length];
-    words[0] = capacity;
+    words[GRAPH_CAPACITY] = capacity;
     same("words of an empty graph", &words[..], graph.words())
 }
 
@@ -310,18 +317,18 @@ fn unchanged(
     }
 }
 
-fn request(a: &Addition) -> [u32; 9] {
-    [
-        a.collider1,
-        a.collider2,
-        a.body1.is_some() as u32,
-        a.body1.unwrap_or(0),
-        a.body2.is_some() as u32,
-        a.body2.unwrap_or(0),
-        a.contact_events as u32,
-        a.modify_contacts as u32,
-        a.speculative_distance.to_bits(),
-    ]
+fn request(a: &Addition) -> [u32; REQUEST_LENGTH] {
+    let mut words = [0; REQUEST_LENGTH];
+    words[REQUEST_COLLIDER1] = a.collider1;
+    words[REQUEST_COLLIDER2] = a.collider2;
+    for (mark, body) in [(REQUEST_BODY1, a.body1), (REQUEST_BODY2, a.body2)] {
+        words[mark] = body.is_some() as u32;
+        words[mark + 1] = body.unwrap_or(0);
+    }
+    words[REQUEST_CONTACT_EVENTS] = a.contact_events as u32;
+    words[REQUEST_MODIFY_CONTACTS] = a.modify_contacts as u32;
+    words[REQUEST_SPECULATIVE_DISTANCE] = a.speculative_distance.to_bits();
+    words
 }
 
 fn typed(a: &Addition) -> reference::Addition {

@@ -4,6 +4,7 @@
 
 use super::{ContactManifold, ContactPair, Entity, Rot, Vector};
 use crate::branches::reach;
+use crate::layout::RULES;
 
 #[derive(Clone, Copy, Debug)]
 pub struct ColliderAabb {
@@ -55,7 +56,7 @@ pub enum CoefficientCombine {
 }
 
 impl CoefficientCombine {
-    pub const ALL: [Self; 5] = [
+    pub const ALL: [Self; RULES] = [
         Self::Average,
         Self::GeometricMean,
         Self::Min,
@@ -111,7 +112,7 @@ impl Restitution {
 }
 
 fn pair_of_rules(a: CoefficientCombine, b: CoefficientCombine) -> usize {
-    (a as usize - 1) * 5 + (b as usize - 1)
+    (a as usize - 1) * RULES + (b as usize - 1)
 }
 
 #[derive(Clone, Copy, Debug)]

@@ -9,7 +9,8 @@
 //! (`contact_graph`), one list of events in the pass's order for two writers, each event with its contact's id, and the given
 //! workers for threads (`system_param`).
 //!
-//! `words` reads typed values from the words of docs/BUFFERS.md. `tables`, and the programs in src/bin, make stored outputs of crates/.
+//! `layout` has the sizes and places of docs/BUFFERS.md by name, and `words` reads typed values from such words. `tables`, and the
+//! programs in src/bin, make stored outputs of crates/.
 //!
 //! `reach!` counts how often a branch is reached; `reached` holds the counts that need more than the source computes. Neither
 //! changes anything, and both are compiled out without the feature `counts`.
@@ -21,6 +22,7 @@ pub mod contact_graph;
 pub mod contact_types;
 pub mod counts;
 pub mod data_structures;
+pub mod layout;
 pub mod math;
 mod reached;
 pub mod system_param;

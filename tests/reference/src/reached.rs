@@ -2,6 +2,7 @@
 
 use super::*;
 use crate::branches::reach;
+use crate::layout::PROPOSED_POINTS;
 
 pub fn matched_by_features(contact: &ContactPoint, previous: &ContactPoint) {
     reach!(match (contact.feature_id1.0, contact.feature_id2.0) {
@@ -196,8 +197,8 @@ pub fn points_left(count: usize) {
         4 => "points left: 4",
         5 => "points left: 5",
         6..=16 => "points left: 6 to 16",
-        17..=31 => "points left: 17 to 31",
-        _ => "points left: 32",
+        17..PROPOSED_POINTS => "points left: over 16, not the most",
+        _ => "points left: the most",
     });
 }
 

@@ -1,231 +1,277 @@
 //! Words that passed the table's refusals (docs/BUFFERS.md) as typed values.
 
 use super::*;
+use crate::layout::*;
 
-struct Reader<'a> {
-    words: &'a [u32],
-}
+/// Marks of a contact's record.
+pub const EDGE_MARKS: &[(usize, ContactEdgeFlags)] = &[
+    (CONTACT_EDGE_TOUCHING, ContactEdgeFlags::TOUCHING),
+    (
+        CONTACT_EDGE_CONTACT_EVENTS,
+        ContactEdgeFlags::CONTACT_EVENTS,
+    ),
+];
 
-fn at(words: &[u32], place: usize) -> Reader<'_> {
-    Reader {
-        words: &words[place..],
+pub const PAIR_MARKS: &[(usize, ContactPairFlags)] = &[
+    (CONTACT_TOUCHING, ContactPairFlags::TOUCHING),
+    (CONTACT_DISJOINT_AABB, ContactPairFlags::DISJOINT_AABB),
+    (CONTACT_STARTED_TOUCHING, ContactPairFlags::STARTED_TOUCHING),
+    (CONTACT_STOPPED_TOUCHING, ContactPairFlags::STOPPED_TOUCHING),
+    (
+        CONTACT_GENERATE_CONSTRAINTS,
+        ContactPairFlags::GENERATE_CONSTRAINTS,
+    ),
+    (
+        CONTACT_STARTED_GENERATING_CONSTRAINTS,
+        ContactPairFlags::STARTED_GENERATING_CONSTRAINTS,
+    ),
+    (CONTACT_STATIC1, ContactPairFlags::STATIC1),
+    (CONTACT_STATIC2, ContactPairFlags::STATIC2),
+    (CONTACT_MODIFY_CONTACTS, ContactPairFlags::MODIFY_CONTACTS),
+];
+
+/// The words of a record, read by their places.
+#[derive(Clone, Copy)]
+struct Record<'a>(&'a [u32]);
+
+impl<'a> Record<'a> {
+    /// What stands from a place on.
+    fn at(self, place: usize) -> Record<'a> {
+        Record(&self.0[place..])
     }
-}
 
-impl Reader<'_> {
-    fn word(&mut self) -> u32 {
-        let (first, rest) = self.words.split_first().unwrap();
-        self.words = rest;
-        *first
+    fn word(self, place: usize) -> u32 {
+        self.0[place]
     }
 
-    fn mark(&mut self) -> bool {
-        let word = self.word();
+    fn count(self, place: usize) -> usize {
+        self.word(place) as usize
+    }
+
+    fn mark(self, place: usize) -> bool {
+        let word = self.word(place);
         assert!(word < 2);
         word == 1
     }
 
-    fn float(&mut self) -> f32 {
-        f32::from_bits(self.word())
+    fn float(self, place: usize) -> f32 {
+        f32::from_bits(self.word(place))
     }
 
-    fn vec3(&mut self) -> Vec3 {
-        vec3(self.float(), self.float(), self.float())
+    fn floats<const N: usize>(self, place: usize) -> [f32; N] {
+        std::array::from_fn(|k| self.float(place + k))
     }
 
-    fn quat(&mut self) -> Quat {
-        quat(self.float(), self.float(), self.float(), self.float())
+    fn vec3(self, place: usize) -> Vec3 {
+        let [x, y, z] = self.floats(place);
+        vec3(x, y, z)
     }
 
-    /// A mark, and as many words, which are read only if it is 1.
-    fn optional<T>(&mut self, size: usize, read: impl Fn(&mut Self) -> T) -> Option<T> {
-        let rest = &self.words[1 + size..];
-        let value = self.mark().then(|| read(self));
-        self.words = rest;
-        value
+    fn quat(self, place: usize) -> Quat {
+        let [x, y, z, w] = self.floats(place);
+        quat(x, y, z, w)
     }
 
-    fn body_number(&mut self) -> Option<Entity> {
-        self.optional(1, |r| Entity(r.word()))
+    /// What stands behind a mark, which is read only if that is 1.
+    fn optional<T>(self, mark: usize, read: impl Fn(Self, usize) -> T) -> Option<T> {
+        self.mark(mark).then(|| read(self, mark + 1))
     }
 
-    fn rule(&mut self) -> CoefficientCombine {
-        CoefficientCombine::ALL[self.word() as usize - 1]
+    fn body_number(self, mark: usize) -> Option<Entity> {
+        self.optional(mark, Self::word).map(Entity)
     }
 
-    fn friction(&mut self) -> Friction {
+    fn features(self, place: usize) -> [PackedFeatureId; 2] {
+        [0, 1].map(|k| PackedFeatureId(self.word(place + k)))
+    }
+
+    fn rule(self, place: usize) -> CoefficientCombine {
+        CoefficientCombine::ALL[self.count(place) - 1]
+    }
+
+    fn friction(self, place: usize) -> Friction {
         Friction {
-            dynamic_coefficient: self.float(),
-            combine_rule: self.rule(),
+            dynamic_coefficient: self.float(place),
+            combine_rule: self.rule(place + 1),
         }
     }
 
-    fn restitution(&mut self) -> Restitution {
+    fn restitution(self, place: usize) -> Restitution {
         Restitution {
-            coefficient: self.float(),
-            combine_rule: self.rule(),
+            coefficient: self.float(place),
+            combine_rule: self.rule(place + 1),
         }
     }
 
-    fn margin(&mut self) -> Option<CollisionMargin> {
-        self.optional(1, |r| CollisionMargin(r.float()))
+    fn margin(self, mark: usize) -> Option<CollisionMargin> {
+        self.optional(mark, Self::float).map(CollisionMargin)
     }
 
-    fn collider(&mut self) -> Option<ColliderQuery> {
-        self.optional(22, |r| ColliderQuery {
-            of: r.body_number().map(|body| ColliderOf { body }),
+    fn collider(self) -> Option<ColliderQuery> {
+        self.mark(PRESENCE).then(|| ColliderQuery {
+            of: self
+                .body_number(COLLIDER_BODY)
+                .map(|body| ColliderOf { body }),
             enlarged_aabb: ColliderAabb {
-                min: r.vec3(),
-                max: r.vec3(),
+                min: self.vec3(COLLIDER_LOWER),
+                max: self.vec3(COLLIDER_UPPER),
             },
-            position: r.vec3(),
+            position: self.vec3(COLLIDER_POSITION),
             layers: CollisionLayers {
-                memberships: r.word(),
-                filters: r.word(),
+                memberships: self.word(COLLIDER_MEMBERSHIPS),
+                filters: self.word(COLLIDER_FILTERS),
             },
-            friction: r.optional(2, Self::friction),
-            restitution: r.optional(2, Self::restitution),
-            collision_margin: r.margin(),
-            is_sensor: r.mark(),
+            friction: self.optional(COLLIDER_FRICTION, Self::friction),
+            restitution: self.optional(COLLIDER_RESTITUTION, Self::restitution),
+            collision_margin: self.margin(COLLIDER_MARGIN),
+            is_sensor: self.mark(COLLIDER_SENSOR),
         })
     }
 
-    fn body(&mut self) -> Option<RigidBodyQuery> {
-        self.optional(25, |r| RigidBodyQuery {
-            is_static: r.mark(),
-            position: r.vec3(),
-            rotation: r.quat(),
-            center_of_mass: r.vec3(),
-            linear_velocity: r.vec3(),
-            angular_velocity: r.vec3(),
-            friction: r.optional(2, Self::friction),
-            collision_margin: r.margin(),
-            speculative_ccd: r.optional(1, |r| SpeculativeCcd {
-                max_distance: r.float(),
-            }),
+    fn body(self) -> Option<RigidBodyQuery> {
+        self.mark(PRESENCE).then(|| RigidBodyQuery {
+            is_static: self.mark(BODY_STATIC),
+            position: self.vec3(BODY_POSITION),
+            rotation: self.quat(BODY_ROTATION),
+            center_of_mass: self.vec3(BODY_CENTER_OF_MASS),
+            linear_velocity: self.vec3(BODY_LINEAR_VELOCITY),
+            angular_velocity: self.vec3(BODY_ANGULAR_VELOCITY),
+            friction: self.optional(BODY_FRICTION, Self::friction),
+            collision_margin: self.margin(BODY_MARGIN),
+            speculative_ccd: self
+                .optional(BODY_SPECULATIVE_MAXIMUM, Self::float)
+                .map(|max_distance| SpeculativeCcd { max_distance }),
             size_metrics: BodySizeMetrics {
-                sweep_radius: r.float(),
+                sweep_radius: self.float(BODY_SWEEP_RADIUS),
             },
         })
     }
 
-    fn proposed_point(&mut self) -> ContactPoint {
-        ContactPoint::new(self.vec3(), self.vec3(), self.vec3(), self.float())
-            .with_feature_ids(PackedFeatureId(self.word()), PackedFeatureId(self.word()))
+    fn proposed_point(self) -> ContactPoint {
+        let [feature_id1, feature_id2] = self.features(PROPOSED_POINT_FEATURES);
+        ContactPoint::new(
+            self.vec3(PROPOSED_POINT_ANCHOR1),
+            self.vec3(PROPOSED_POINT_ANCHOR2),
+            self.vec3(PROPOSED_POINT_POSITION),
+            self.float(PROPOSED_POINT_PENETRATION),
+        )
+        .with_feature_ids(feature_id1, feature_id2)
     }
 
-    fn proposed_manifold(&mut self) -> ContactManifold {
-        let count = self.word();
-        let normal = self.vec3();
-        ContactManifold::new((0..count).map(|_| self.proposed_point()), normal)
+    fn proposed_manifold(self) -> ContactManifold {
+        let points = 0..self.count(PROPOSED_MANIFOLD_COUNT);
+        ContactManifold::new(
+            points.map(|p| self.at(proposed_point(p)).proposed_point()),
+            self.vec3(PROPOSED_MANIFOLD_NORMAL),
+        )
     }
 
-    fn point(&mut self) -> ContactPoint {
+    fn point(self) -> ContactPoint {
+        let [feature_id1, feature_id2] = self.features(POINT_FEATURES);
         ContactPoint {
-            anchor1: self.vec3(),
-            anchor2: self.vec3(),
-            point: self.vec3(),
-            penetration: self.float(),
-            base_penetration: self.float(),
-            normal_impulse: self.float(),
-            normal_speed: self.float(),
-            warm_start_normal_impulse: self.float(),
+            anchor1: self.vec3(POINT_ANCHOR1),
+            anchor2: self.vec3(POINT_ANCHOR2),
+            point: self.vec3(POINT_POSITION),
+            penetration: self.float(POINT_PENETRATION),
+            base_penetration: self.float(POINT_BASE_PENETRATION),
+            normal_impulse: self.float(POINT_NORMAL_IMPULSE),
+            normal_speed: self.float(POINT_NORMAL_SPEED),
+            warm_start_normal_impulse: self.float(POINT_WARM_START_NORMAL_IMPULSE),
             warm_start_tangent_impulse: Vec2 {
-                x: self.float(),
-                y: self.float(),
+                x: self.float(POINT_WARM_START_TANGENT_IMPULSE),
+                y: self.float(POINT_WARM_START_TANGENT_IMPULSE2),
             },
-            feature_id1: PackedFeatureId(self.word()),
-            feature_id2: PackedFeatureId(self.word()),
+            feature_id1,
+            feature_id2,
         }
     }
 
-    fn manifold(&mut self) -> ContactManifold {
-        let count = self.word();
+    fn manifold(self) -> ContactManifold {
+        let points = 0..self.count(MANIFOLD_COUNT);
         ContactManifold {
-            normal: self.vec3(),
-            friction: self.float(),
-            restitution: self.float(),
-            tangent_velocity: self.vec3(),
-            points: (0..count).map(|_| self.point()).collect(),
+            normal: self.vec3(MANIFOLD_NORMAL),
+            friction: self.float(MANIFOLD_FRICTION),
+            restitution: self.float(MANIFOLD_RESTITUTION),
+            tangent_velocity: self.vec3(MANIFOLD_TANGENT_VELOCITY),
+            points: points.map(|p| self.at(manifold_point(p)).point()).collect(),
         }
     }
 
-    fn cache(&mut self) -> ContactRecyclingCache {
+    fn cache(self, place: usize) -> ContactRecyclingCache {
         ContactRecyclingCache {
-            rotation1: self.quat(),
-            rotation2: self.quat(),
-            relative_translation: self.vec3(),
-            relative_rotation: self.quat(),
+            rotation1: self.quat(place + CACHE_ROTATION1),
+            rotation2: self.quat(place + CACHE_ROTATION2),
+            relative_translation: self.vec3(place + CACHE_RELATIVE_TRANSLATION),
+            relative_rotation: self.quat(place + CACHE_RELATIVE_ROTATION),
         }
     }
 
-    fn edge(&mut self, id: ContactId) -> ContactEdge {
-        let mut edge = ContactEdge::new(Entity(self.word()), Entity(self.word()));
+    fn edge(self, id: ContactId) -> ContactEdge {
+        let colliders = [CONTACT_COLLIDER1, CONTACT_COLLIDER2];
+        let [collider1, collider2] = colliders.map(|place| Entity(self.word(place)));
+        let mut edge = ContactEdge::new(collider1, collider2);
         edge.id = id;
-        edge.body1 = self.body_number();
-        edge.body2 = self.body_number();
-        edge.pair_index = self.word() as usize;
-        edge.flags.set(ContactEdgeFlags::TOUCHING, self.mark());
-        edge.flags
-            .set(ContactEdgeFlags::CONTACT_EVENTS, self.mark());
+        edge.body1 = self.body_number(CONTACT_BODY1);
+        edge.body2 = self.body_number(CONTACT_BODY2);
+        edge.pair_index = self.count(CONTACT_PAIR_INDEX);
+        for (place, flag) in EDGE_MARKS {
+            edge.flags.set(*flag, self.mark(*place));
+        }
         edge
     }
 
-    /// What follows the edge's words.
-    fn pair(&mut self, edge: &ContactEdge) -> ContactPair {
+    fn pair(self, edge: &ContactEdge) -> ContactPair {
         let mut pair = ContactPair::new(edge.collider1, edge.collider2, edge.id);
         pair.body1 = edge.body1;
         pair.body2 = edge.body2;
-        for bit in 0..9 {
-            pair.flags.set(ContactPairFlags(1 << bit), self.mark());
+        for (place, flag) in PAIR_MARKS {
+            pair.flags.set(*flag, self.mark(*place));
         }
-        pair.manifold_count_change = self.word() as i32;
-        pair.speculative_distance = self.float();
-        pair.recycling_cache = self.optional(15, Self::cache);
-        let count = self.word() as usize;
-        pair.manifolds = (0..count)
-            .map(|m| at(self.words, 81 * m).manifold())
+        pair.manifold_count_change = self.word(CONTACT_COUNT_CHANGE) as i32;
+        pair.speculative_distance = self.float(CONTACT_SPECULATIVE_DISTANCE);
+        pair.recycling_cache = self.optional(CONTACT_CACHE, Self::cache);
+        pair.manifolds = (0..self.count(CONTACT_MANIFOLDS))
+            .map(|m| self.at(contact_manifold(m)).manifold())
             .collect();
         pair
     }
 }
 
-/// A body's row, if the body is there.
-pub fn body(row: &[u32]) -> Option<RigidBodyQuery> {
-    at(row, 0).body()
+/// A body's record, if the body is there.
+pub fn body(record: &[u32]) -> Option<RigidBodyQuery> {
+    Record(record).body()
 }
 
 /// The edge and the pair of a contact's record.
 pub fn contact(id: ContactId, record: &[u32]) -> (ContactEdge, ContactPair) {
-    let mut r = at(record, 0);
-    let edge = r.edge(id);
-    let pair = r.pair(&edge);
+    let edge = Record(record).edge(id);
+    let pair = Record(record).pair(&edge);
     (edge, pair)
 }
 
 /// A graph.
 pub fn graph(words: &[u32]) -> ContactGraph {
-    let [capacity, given, pairs, freed] =
-        [words[0], words[1], words[2], words[3]].map(|n| n as usize);
+    let head = [GRAPH_CAPACITY, GRAPH_GIVEN, GRAPH_LISTED, GRAPH_FREED];
+    let [capacity, given, pairs, freed] = head.map(|place| words[place] as usize);
     let mut raw_edges = vec![None; given];
     let mut graph = ContactGraph::default();
-    for id in &words[4..4 + pairs] {
-        let record = &words[4 + 2 * capacity + 523 * *id as usize..];
+    for id in &words[GRAPH_LIST..][..pairs] {
+        let record = &words[graph_record(capacity, *id as usize)..];
         let (edge, pair) = contact(ContactId(*id), record);
         let key = PairKey::new(edge.collider1.index_u32(), edge.collider2.index_u32());
         graph.pair_set.insert(key);
         graph.active_pairs.push(pair);
         raw_edges[*id as usize] = Some(edge);
     }
-    let free = &words[4 + capacity..][..freed];
+    let free = &words[graph_free(capacity)..][..freed];
     graph.edges = Edges::from_parts(raw_edges, free.iter().copied().map(ContactId).collect());
     graph
 }
 
 /// Each worker's list places.
 pub fn workers(shares: &[u32], graph: &ContactGraph) -> Vec<Vec<usize>> {
-    let mut entries = shares[9..].iter();
-    shares[1..1 + shares[0] as usize]
+    let mut entries = shares[SHARES_ENTRIES..].iter();
+    shares[SHARES_COUNTS..][..shares[SHARES_WORKERS] as usize]
         .iter()
         .map(|count| {
             entries
@@ -259,35 +305,44 @@ pub fn step(
     };
     for pair in &contact_graph.active_pairs {
         let id = pair.contact_id.0 as usize;
-        let proposal = &rows.proposals[2330 * id..];
-        hooks.0[id] = proposal[0] == 1;
-        shapes.proposed[id] = (0..proposal[1] as usize)
-            .map(|m| at(proposal, 2 + 388 * m).proposed_manifold())
+        let proposal = Record(rows.proposals).at(PROPOSAL_SIZE * id);
+        hooks.0[id] = proposal.mark(PROPOSAL_HOOK);
+        shapes.proposed[id] = (0..proposal.count(PROPOSAL_COUNT))
+            .map(|m| proposal.at(proposed_manifold(m)).proposed_manifold())
             .collect();
     }
-    let mut s = at(rows.settings, 0);
-    let delta_secs = s.float();
+    let settings = Record(rows.settings);
+    let (colliders, bodies) = (Record(rows.colliders), Record(rows.bodies));
     let narrow_phase = NarrowPhase {
         collider_query: Query(
-            (0..256)
-                .map(|n| at(rows.colliders, 23 * n).collider())
+            (0..COLLIDERS)
+                .map(|n| colliders.at(COLLIDER_SIZE * n).collider())
                 .collect(),
         ),
-        body_query: Query((0..128).map(|n| body(&rows.bodies[26 * n..])).collect()),
+        body_query: Query(
+            (0..BODIES)
+                .map(|n| bodies.at(BODY_SIZE * n).body())
+                .collect(),
+        ),
         contact_graph,
         contact_status_changes: vec![],
         contact_status_bits: BitVec::default(),
         thread_locals: vec![],
-        length_unit: s.float(),
+        length_unit: settings.float(SETTINGS_LENGTH_UNIT),
         config: NarrowPhaseConfig {
-            contact_tolerance: s.float(),
-            recycle_distance: s.float(),
-            recycle_angular_distance: s.float(),
-            match_contacts: s.mark(),
+            contact_tolerance: settings.float(SETTINGS_CONTACT_TOLERANCE),
+            recycle_distance: settings.float(SETTINGS_RECYCLE_DISTANCE),
+            recycle_angular_distance: settings.float(SETTINGS_RECYCLE_COSINE),
+            match_contacts: settings.mark(SETTINGS_MATCH_CONTACTS),
         },
-        default_friction: s.friction(),
-        default_restitution: s.restitution(),
+        default_friction: settings.friction(SETTINGS_FRICTION),
+        default_restitution: settings.restitution(SETTINGS_RESTITUTION),
         combined_by: vec![[CoefficientCombine::Average; 2]; capacity],
     };
-    (narrow_phase, hooks, shapes, delta_secs)
+    (
+        narrow_phase,
+        hooks,
+        shapes,
+        settings.float(SETTINGS_STEP_TIME),
+    )
 }

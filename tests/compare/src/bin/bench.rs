@@ -11,6 +11,7 @@ compile_error!("the time is taken without counts: --no-default-features --featur
 use compare::draws::StepSettings;
 use compare::refusals::Refusals;
 use compare::sides::Sides;
+use reference::layout::*;
 use reference::*;
 use sardinerod::{Addition, Shares, raw};
 use std::hint::black_box;
@@ -20,8 +21,8 @@ use std::time::Instant;
 const BATCHES: usize = 25;
 const BATCH_SECONDS: f64 = 0.004;
 
-const CONTACTS: [usize; 3] = [16, 64, 256];
-const WORKERS: [usize; 2] = [1, 8];
+const CONTACTS: [usize; 3] = [16, 64, MOST_CONTACTS];
+const WORKERS: [usize; 2] = [1, MOST_WORKERS];
 
 #[derive(Clone, Copy)]
 struct Case {
@@ -37,30 +38,32 @@ const CASES: [Case; 4] = [
         name: "recycled, at rest",
         recycle_distance: 0.05,
         moved: false,
-        points: 4,
+        points: STORED_POINTS,
     },
     Case {
         name: "recycled, moved",
         recycle_distance: 0.05,
         moved: true,
-        points: 4,
+        points: STORED_POINTS,
     },
     Case {
         name: "none recycled",
         recycle_distance: 0.0,
         moved: false,
-        points: 4,
+        points: STORED_POINTS,
     },
     Case {
-        name: "32 points pruned",
+        name: "points pruned",
         recycle_distance: 0.0,
         moved: false,
-        points: 32,
+        points: PROPOSED_POINTS,
     },
 ];
 
 fn main() {
-    println!("ns for a step, median of {BATCHES} batches; 4 stored points for each contact");
+    println!(
+        "ns for a step, median of {BATCHES} batches; {STORED_POINTS} stored points for each contact"
+    );
     println!("case               contacts  workers      Rust   library  library / Rust");
     for case in CASES {
         for workers in WORKERS {
@@ -76,7 +79,10 @@ fn measure(case: Case, workers: usize) {
     for _ in 0..BATCHES {
         runs.iter_mut().for_each(Run::batch);
     }
-    let name = case.name;
+    let name = match case.points {
+        STORED_POINTS => case.name.to_string(),
+        points => format!("{points} {}", case.name),
+    };
     for (contacts, run) in CONTACTS.iter().zip(&runs) {
         let rust = median(&run.rust_times);
         let library = median(&run.library_times);
@@ -86,7 +92,8 @@ fn measure(case: Case, workers: usize) {
     let [first, _, last] = &runs;
     let rust = median_ratio(&last.rust_times, &first.rust_times);
     let library = median_ratio(&last.library_times, &first.library_times);
-    println!("{name:17}  16 to 256  {workers:6}  {rust:7.1}x  {library:7.1}x");
+    let [least, _, most] = CONTACTS;
+    println!("{name:17}  {least} to {most}  {workers:6}  {rust:7.1}x  {library:7.1}x");
     runs.into_iter().for_each(Run::check);
 }
 
@@ -255,7 +262,7 @@ impl Library {
     }
 
     fn step(&mut self) {
-        let mut answer = [0; 3];
+        let mut answer = [0; STEP_ANSWER_LENGTH];
         let number = raw::step(
             black_box(&self.settings),
             black_box(&self.colliders),
@@ -277,10 +284,10 @@ impl Library {
 
 fn sides(case: Case, contacts: usize) -> Sides {
     let mut sides = Sides::new(contacts, &settings(case));
-    let colliders = (contacts + 1).min(256);
+    let colliders = (contacts + 1).min(COLLIDERS);
     for n in 0..colliders {
         sides.set_collider(n as u32, Some(collider(n)));
-        sides.set_body(n as u32 % 128, Some(body(n % 128)));
+        sides.set_body(body_of(n), Some(body(body_of(n) as usize)));
     }
     let mut refusals = Refusals::default();
     for n in 0..contacts {
@@ -288,8 +295,8 @@ fn sides(case: Case, contacts: usize) -> Sides {
         let addition = Addition {
             collider1: n as u32,
             collider2: next as u32,
-            body1: Some(n as u32 % 128),
-            body2: Some(next as u32 % 128),
+            body1: Some(body_of(n)),
+            body2: Some(body_of(next)),
             contact_events: true,
             ..Addition::default()
         };
@@ -331,11 +338,16 @@ fn settings(case: Case) -> StepSettings {
     }
 }
 
+/// The body of collider n.
+fn body_of(n: usize) -> u32 {
+    (n % BODIES) as u32
+}
+
 fn collider(n: usize) -> ColliderQuery {
     let x = n as f32 * 0.01;
     ColliderQuery {
         of: Some(ColliderOf {
-            body: Entity(n as u32 % 128),
+            body: Entity(body_of(n)),
         }),
         enlarged_aabb: ColliderAabb {
             min: vec3(x - 4.0, -1.0, -1.0),
@@ -375,7 +387,7 @@ fn body(n: usize) -> RigidBodyQuery {
 
 /// By less than the recycle distance: the roots of rule 4 are then not those of 0.
 fn move_bodies(sides: &mut Sides) {
-    for n in 0..128 {
+    for n in 0..BODIES {
         let still = body(n);
         let step = (n % 7) as f32 * 0.0005;
         let half = 0.05 + n as f32 * 0.0001 + (n % 3) as f32 * 0.0002;

@@ -25,7 +25,7 @@ fn main() {
         }
         list += 1;
     }
-    if let Err(difference) = damage::lengths() {
+    if let Err(difference) = damage::lengths().and_then(|()| damage::layout()) {
         println!("{difference}");
         exit(1);
     }

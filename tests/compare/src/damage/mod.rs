@@ -10,6 +10,7 @@ use crate::draws::Rng;
 use crate::oracle;
 use crate::refusals::{Call, Refusals};
 use crate::sides::{Sides, remove_pair};
+use reference::layout::*;
 use reference::{
     self, Addition, CoefficientCombine, ContactId, ContactManifold, ContactPoint, Entity,
     PackedFeatureId, Vec3, add_pair, vec3, words,
@@ -67,37 +68,52 @@ fn damaged_graph(rng: &mut Rng, sides: &Sides) -> Vec<u32> {
     graph
 }
 
+/// With more words a graph reaches past the lists of any capacity.
+const LONG: usize = 2 * CONTACT_SIZE;
+const _: () = assert!(LONG > graph_records(MOST_CONTACTS) + CONTACT_COLLIDER2);
+
 /// Of two colliders, a body's number behind a mark of 0 any.
 fn request(rng: &mut Rng, graph: &[u32]) -> Vec<u32> {
-    let mut request: Vec<u32> = (0..9).map(|_| rng.below(2) as u32).collect();
-    request[0] = rng.below(256) as u32;
-    request[1] = rng.below(256) as u32;
-    for k in [3, 5] {
-        request[k] = match request[k - 1] {
+    let marks = 0..REQUEST_LENGTH;
+    let mut request: Vec<u32> = marks.map(|_| rng.below(2) as u32).collect();
+    let mut colliders = [(); 2].map(|()| rng.below(COLLIDERS) as u32);
+    for mark in [REQUEST_BODY1, REQUEST_BODY2] {
+        request[mark + 1] = match request[mark] {
             0 => rng.word(),
-            _ => rng.below(128) as u32,
+            _ => rng.below(BODIES) as u32,
         };
     }
-    request[8] = rng.word();
-    // The colliders of some record, in either order.
-    if rng.one_in(3) && graph.len() > 600 {
-        let record = 4 + 2 * graph[0].min(256) as usize;
-        let (a, b) = (graph[record], graph[record + 1]);
-        (request[0], request[1]) = if rng.one_in(2) { (a, b) } else { (b, a) };
+    request[REQUEST_SPECULATIVE_DISTANCE] = rng.word();
+    // Those of some record, in either order.
+    if rng.one_in(3) && graph.len() > LONG {
+        let capacity = (graph[GRAPH_CAPACITY] as usize).min(MOST_CONTACTS);
+        let record = &graph[graph_records(capacity)..];
+        colliders = [record[CONTACT_COLLIDER1], record[CONTACT_COLLIDER2]];
+        if !rng.one_in(2) {
+            colliders.reverse();
+        }
     }
+    [request[REQUEST_COLLIDER1], request[REQUEST_COLLIDER2]] = colliders;
     match rng.below(6) {
         0 => change::length(rng, &mut request),
         1 | 2 => change::any_word(rng, &mut request),
-        3 => request[0] = request[1],
+        3 => request[REQUEST_COLLIDER1] = request[REQUEST_COLLIDER2],
         _ => {}
     }
     request
 }
 
+/// An answer's words, mostly of the right length, else of one of the others.
+fn answer_words(rng: &mut Rng, right: usize, others: &[usize]) -> Vec<u32> {
+    let lengths = [&[right; 7], others].concat();
+    vec![rng.word(); rng.of(&lengths)]
+}
+
 fn add(rng: &mut Rng, sides: &Sides, refusals: &mut Refusals) -> Compared {
     let mut graph = damaged_graph(rng, sides);
     let request = request(rng, &graph);
-    let mut answer = vec![rng.word(); rng.of(&[1, 1, 1, 1, 1, 1, 1, 0, 2])];
+    let right = ADD_ANSWER_LENGTH;
+    let mut answer = answer_words(rng, right, &[right - 1, right + 1]);
     let before = (graph.clone(), answer.clone());
     let expected = oracle::add(&graph, &request, answer.len());
     let number = raw::add(&mut graph, &request, &mut answer);
@@ -107,34 +123,35 @@ fn add(rng: &mut Rng, sides: &Sides, refusals: &mut Refusals) -> Compared {
     }
     let mut reference = words::graph(&before.0);
     let id = add_pair(&mut reference, &addition(&request));
-    same("id of an addition", id.unwrap().0, answer[0])?;
+    same("id of an addition", vec![id.unwrap().0], answer)?;
     same_graph(&reference, &graph)
 }
 
 fn addition(request: &[u32]) -> Addition {
-    let body = |k: usize| (request[k] == 1).then_some(Entity(request[k + 1]));
+    let body = |mark: usize| (request[mark] == 1).then_some(Entity(request[mark + 1]));
     Addition {
-        collider1: Entity(request[0]),
-        collider2: Entity(request[1]),
-        body1: body(2),
-        body2: body(4),
-        contact_events: request[6] == 1,
-        modify_contacts: request[7] == 1,
-        speculative_distance: f32::from_bits(request[8]),
+        collider1: Entity(request[REQUEST_COLLIDER1]),
+        collider2: Entity(request[REQUEST_COLLIDER2]),
+        body1: body(REQUEST_BODY1),
+        body2: body(REQUEST_BODY2),
+        contact_events: request[REQUEST_CONTACT_EVENTS] == 1,
+        modify_contacts: request[REQUEST_MODIFY_CONTACTS] == 1,
+        speculative_distance: f32::from_bits(request[REQUEST_SPECULATIVE_DISTANCE]),
     }
 }
 
 fn any_id(rng: &mut Rng, graph: &[u32]) -> u32 {
     match rng.below(4) {
         0 => change::number(rng),
-        _ => graph.get(4).copied().unwrap_or(0),
+        _ => graph.get(GRAPH_LIST).copied().unwrap_or(0),
     }
 }
 
 fn look_up(rng: &mut Rng, sides: &Sides, refusals: &mut Refusals) -> Compared {
     let graph = damaged_graph(rng, sides);
     let id = any_id(rng, &graph);
-    let mut answer = vec![rng.word(); rng.of(&[10, 10, 10, 10, 10, 10, 10, 9, 11, 0])];
+    let right = LOOK_UP_ANSWER_LENGTH;
+    let mut answer = answer_words(rng, right, &[right - 1, right + 1, 0]);
     let before = answer.clone();
     let expected = oracle::look_up(&graph, id, answer.len());
     let number = raw::look_up(&graph, id, &mut answer);
@@ -142,16 +159,29 @@ fn look_up(rng: &mut Rng, sides: &Sides, refusals: &mut Refusals) -> Compared {
     if number != 0 {
         return unchanged(number, &before, &answer);
     }
-    let record = &graph[4 + 2 * graph[0] as usize + 523 * id as usize..];
-    let body = |k: usize| match record[k] {
-        0 => [0, 0],
-        _ => [1, record[k + 1]],
-    };
-    let [[mark1, number1], [mark2, number2]] = [body(2), body(4)];
-    let expected = [
-        id, record[0], record[1], mark1, number1, mark2, number2, record[6], record[7], record[8],
-    ];
-    same("edge", &expected[..], &answer[..])
+    same("edge", &edge_words(&graph, id)[..], &answer[..])
+}
+
+/// What looking up a standing contact answers.
+fn edge_words(graph: &[u32], id: u32) -> [u32; LOOK_UP_ANSWER_LENGTH] {
+    let record = &graph[graph_record(graph[GRAPH_CAPACITY] as usize, id as usize)..];
+    let mut words = [0; LOOK_UP_ANSWER_LENGTH];
+    words[LOOK_UP_CONTACT] = id;
+    words[LOOK_UP_COLLIDER1] = record[CONTACT_COLLIDER1];
+    words[LOOK_UP_COLLIDER2] = record[CONTACT_COLLIDER2];
+    for (to, from) in [
+        (LOOK_UP_BODY1, CONTACT_BODY1),
+        (LOOK_UP_BODY2, CONTACT_BODY2),
+    ] {
+        if record[from] == 1 {
+            words[to] = 1;
+            words[to + 1] = record[from + 1];
+        }
+    }
+    words[LOOK_UP_PAIR_INDEX] = record[CONTACT_PAIR_INDEX];
+    words[LOOK_UP_TOUCHING] = record[CONTACT_EDGE_TOUCHING];
+    words[LOOK_UP_CONTACT_EVENTS] = record[CONTACT_EDGE_CONTACT_EVENTS];
+    words
 }
 
 fn remove(rng: &mut Rng, sides: &Sides, refusals: &mut Refusals) -> Compared {
@@ -169,12 +199,15 @@ fn remove(rng: &mut Rng, sides: &Sides, refusals: &mut Refusals) -> Compared {
     same_graph(&reference, &graph)
 }
 
+/// A capacity past the most contacts.
+const TOO_LARGE: usize = MOST_CONTACTS + 44;
+
 fn lay_out(rng: &mut Rng, refusals: &mut Refusals) -> Compared {
     let capacity = match rng.below(3) {
         0 => change::number(rng),
         _ => 1 + rng.below(12) as u32,
     };
-    let fitting = oracle::lengths(capacity.min(300) as usize)[5];
+    let fitting = graph_length((capacity as usize).min(TOO_LARGE));
     let length = match rng.below(6) {
         0 => fitting + 1,
         1 => fitting - 1,
@@ -190,7 +223,7 @@ fn lay_out(rng: &mut Rng, refusals: &mut Refusals) -> Compared {
         return unchanged(number, &before, &graph);
     }
     let mut empty = vec![0; length];
-    empty[0] = capacity;
+    empty[GRAPH_CAPACITY] = capacity;
     same("empty graph", empty, graph)
 }
 
@@ -200,13 +233,14 @@ fn prune(rng: &mut Rng, refusals: &mut Refusals) -> Compared {
         true => rng.word(),
         false => rng.float(style).to_bits(),
     };
-    let mut normal: Vec<u32> = (0..3).map(|_| float()).collect();
-    let mut points: Vec<u32> = (0..128).map(|_| float()).collect();
+    let mut normal: Vec<u32> = (0..PRUNE_NORMAL_LENGTH).map(|_| float()).collect();
+    let mut points: Vec<u32> = (0..PRUNE_POINTS_LENGTH).map(|_| float()).collect();
     let count = match rng.below(4) {
         0 => change::number(rng),
-        _ => 5 + rng.below(28) as u32,
+        _ => rng.many_points() as u32,
     };
-    let mut answer = vec![rng.word(); rng.of(&[5, 5, 5, 5, 5, 5, 5, 4, 6])];
+    let right = PRUNE_ANSWER_LENGTH;
+    let mut answer = answer_words(rng, right, &[right - 1, right + 1]);
     match rng.below(12) {
         0 => change::length(rng, &mut normal),
         1 => change::length(rng, &mut points),
@@ -228,10 +262,11 @@ fn kept(normal: &[u32], points: &[u32], count: u32) -> Vec<u32> {
         let [x, y, z] = [words[0], words[1], words[2]].map(f32::from_bits);
         vec3(x, y, z)
     };
-    let points = points.chunks(4).take(count as usize).enumerate();
+    let points = points.chunks(PRUNE_POINT_SIZE);
+    let points = points.take(count as usize).enumerate();
     let mut manifold = ContactManifold::new(
         points.map(|(k, point)| {
-            let penetration = f32::from_bits(point[3]);
+            let penetration = f32::from_bits(point[PRUNE_POINT_PENETRATION]);
             ContactPoint::new(vector(point), Vec3::ZERO, Vec3::ZERO, penetration)
                 .with_feature_ids(PackedFeatureId(k as u32), PackedFeatureId::UNKNOWN)
         }),
@@ -240,17 +275,18 @@ fn kept(normal: &[u32], points: &[u32], count: u32) -> Vec<u32> {
     manifold.prune_points();
     let mut kept = vec![manifold.points.len() as u32];
     kept.extend(manifold.points.iter().map(|point| point.feature_id1.0));
-    kept.resize(5, 0);
+    kept.resize(PRUNE_ANSWER_LENGTH, 0);
     kept
 }
 
 /// The lengths that the library answers for every capacity, and those that it refuses.
 pub fn lengths() -> Compared {
-    for capacity in (0..300).chain([u32::MAX, 1 << 31]) {
-        for length in [0, 9, 10, 11] {
+    for capacity in (0..TOO_LARGE as u32).chain([u32::MAX, 1 << 31]) {
+        for length in [0, LENGTHS_LENGTH - 1, LENGTHS_LENGTH, LENGTHS_LENGTH + 1] {
             let mut answer = vec![7; length];
             let number = raw::lengths(capacity, &mut answer);
-            let fits = (1..=256).contains(&capacity) && length == 10;
+            let allowed = (1..=MOST_CONTACTS).contains(&(capacity as usize));
+            let fits = allowed && length == LENGTHS_LENGTH;
             same("answer of lengths", u32::from(!fits), number)?;
             let expected = match fits {
                 true => oracle::lengths(capacity as usize)
@@ -259,6 +295,24 @@ pub fn lengths() -> Compared {
                 false => vec![7; length],
             };
             same("lengths", expected, answer)?;
+        }
+    }
+    Ok(())
+}
+
+/// The limits, sizes and places that the library answers, and the lengths that it refuses.
+pub fn layout() -> Compared {
+    for length in [0, LAYOUT_LENGTH - 1, LAYOUT_LENGTH, LAYOUT_LENGTH + 1] {
+        let mut answer = vec![7; length];
+        let number = raw::layout(&mut answer);
+        let fits = length == LAYOUT_LENGTH;
+        same("answer of layout", u32::from(!fits), number)?;
+        if !fits {
+            same("layout", vec![7; length], answer)?;
+            continue;
+        }
+        for ((name, value), word) in TABLE.iter().zip(answer) {
+            same(name, *value as u32, word)?;
         }
     }
     Ok(())

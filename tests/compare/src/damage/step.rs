@@ -6,6 +6,7 @@ use crate::draws::Rng;
 use crate::oracle::{self, StepRows};
 use crate::refusals::{Call, Refusals};
 use crate::sides::Sides;
+use reference::layout::*;
 use reference::{CollisionDiagnostics, words};
 use sardinerod::{ContactGraph, Shares, World, raw};
 
@@ -41,7 +42,7 @@ impl Step {
             events: any(events),
             changes: any(changes),
             distances: any(distances),
-            answer: any(3),
+            answer: any(STEP_ANSWER_LENGTH),
         };
         unread::graph(rng, &mut step.graph);
         step
@@ -87,7 +88,7 @@ impl Step {
             4 | 5 => change::bodies(rng, &mut self.bodies),
             6..9 => change::proposals(rng, &mut self.proposals),
             9..12 => {
-                let listed = self.graph.get(2).map_or(0, |n| *n as usize);
+                let listed = self.graph.get(GRAPH_LISTED).map_or(0, |n| *n as usize);
                 change::shares(rng, &mut self.shares, listed);
             }
             _ => change::graph(rng, &mut self.graph),
@@ -129,7 +130,7 @@ pub fn step(rng: &mut Rng, sides: &Sides, shares: &Shares, refusals: &mut Refusa
 
 /// An accepted step: what the reference makes of the same words, and what is left of the rows that are written in part.
 fn stepped(before: &Step, after: &Step) -> Compared {
-    let capacity = before.graph[0] as usize;
+    let capacity = before.graph[GRAPH_CAPACITY] as usize;
     let rows = words::Rows {
         settings: &before.settings,
         colliders: &before.colliders,
@@ -149,7 +150,8 @@ fn stepped(before: &Step, after: &Step) -> Compared {
         &workers,
     );
 
-    let [written, changed, recycled] = [after.answer[0], after.answer[1], after.answer[2]];
+    let answer: [u32; STEP_ANSWER_LENGTH] = after.answer[..].try_into().unwrap();
+    let [written, changed, recycled] = answer;
     same("contacts recycled", diagnostics.recycled_count, recycled)?;
     let graph = again(before)?;
     same("words by the bindings", graph.words(), &after.graph[..])?;
@@ -164,7 +166,8 @@ fn stepped(before: &Step, after: &Step) -> Compared {
     differences::written(&events, changes, &shapes.asked, &graph)?;
     differences::bits(&narrow_phase, capacity, &after.bits)?;
 
-    let (events, changes) = (8 * written as usize, 5 * changed as usize);
+    let events = EVENT_SIZE * written as usize;
+    let changes = CHANGE_SIZE * changed as usize;
     same(
         "events",
         &graph.events_words()[..events],
@@ -191,7 +194,7 @@ fn stepped(before: &Step, after: &Step) -> Compared {
 /// The same step through the bindings.
 fn again(rows: &Step) -> Result<ContactGraph, Difference> {
     let refused = |refusal| Difference::new("bindings", "accepted", refusal);
-    let mut world = World::new(rows.graph[0]).map_err(refused)?;
+    let mut world = World::new(rows.graph[GRAPH_CAPACITY]).map_err(refused)?;
     world.settings_words_mut().copy_from_slice(&rows.settings);
     world.colliders_words_mut().copy_from_slice(&rows.colliders);
     world.bodies_words_mut().copy_from_slice(&rows.bodies);

@@ -1,12 +1,13 @@
 //! Words that a call does not read: any.
 
 use crate::draws::Rng;
+use reference::layout::*;
 use sardinerod::{Shares, World};
 
 /// The words behind each mark of 0, by the mark's place and their number.
 fn fill_behind_marks(rng: &mut Rng, record: &mut [u32], marks: &[(usize, usize)]) {
-    let marks = match record[0] {
-        0 => &[(0, record.len() - 1)],
+    let marks = match record[PRESENCE] {
+        0 => &[(PRESENCE, record.len() - 1)],
         _ => marks,
     };
     for (mark, words) in marks {
@@ -17,22 +18,35 @@ fn fill_behind_marks(rng: &mut Rng, record: &mut [u32], marks: &[(usize, usize)]
 }
 
 pub fn collider(rng: &mut Rng, world: &mut World, n: u32) {
-    let record = &mut world.colliders_words_mut()[23 * n as usize..][..23];
-    fill_behind_marks(rng, record, &[(1, 1), (14, 2), (17, 2), (20, 1)]);
+    let record = &mut world.colliders_words_mut()[COLLIDER_SIZE * n as usize..][..COLLIDER_SIZE];
+    let marks = [
+        (COLLIDER_BODY, 1),
+        (COLLIDER_FRICTION, COEFFICIENT),
+        (COLLIDER_RESTITUTION, COEFFICIENT),
+        (COLLIDER_MARGIN, 1),
+    ];
+    fill_behind_marks(rng, record, &marks);
 }
 
 pub fn body(rng: &mut Rng, world: &mut World, n: u32) {
-    let record = &mut world.bodies_words_mut()[26 * n as usize..][..26];
-    fill_behind_marks(rng, record, &[(18, 2), (21, 1), (23, 1)]);
+    let record = &mut world.bodies_words_mut()[BODY_SIZE * n as usize..][..BODY_SIZE];
+    let marks = [
+        (BODY_FRICTION, COEFFICIENT),
+        (BODY_MARGIN, 1),
+        (BODY_SPECULATIVE_MAXIMUM, 1),
+    ];
+    fill_behind_marks(rng, record, &marks);
 }
 
 /// Manifolds past the count, points past a manifold's.
 pub fn proposal(rng: &mut Rng, world: &mut World, id: u32) {
-    let proposal = &mut world.proposals_words_mut()[2330 * id as usize..][..2330];
-    let count = proposal[1] as usize;
-    for (m, manifold) in proposal[2..].chunks_mut(388).enumerate() {
+    let proposal = &mut world.proposals_words_mut()[PROPOSAL_SIZE * id as usize..][..PROPOSAL_SIZE];
+    let count = proposal[PROPOSAL_COUNT] as usize;
+    let manifolds = proposal[PROPOSAL_MANIFOLDS..].chunks_mut(PROPOSED_MANIFOLD_SIZE);
+    for (m, manifold) in manifolds.enumerate() {
+        let points = manifold[PROPOSED_MANIFOLD_COUNT] as usize;
         let read = match m < count {
-            true => 4 + 12 * (manifold[0] as usize).min(32),
+            true => proposed_point(points.min(PROPOSED_POINTS)),
             false => 0,
         };
         manifold[read..].fill_with(|| rng.word());
@@ -41,21 +55,25 @@ pub fn proposal(rng: &mut Rng, world: &mut World, id: u32) {
 
 /// Counts of workers that there are not, and entries past the last.
 pub fn shares(rng: &mut Rng, shares: &mut Shares) {
-    let words = shares.words_mut();
-    let workers = (words[0] as usize).min(8);
-    let entries: usize = words[1..1 + workers].iter().map(|n| *n as usize).sum();
-    words[1 + workers..9].fill_with(|| rng.word());
-    let entries = entries.min(words.len() - 9);
-    words[9 + entries..].fill_with(|| rng.word());
+    let (head, entries) = shares.words_mut().split_at_mut(SHARES_ENTRIES);
+    let workers = (head[SHARES_WORKERS] as usize).min(MOST_WORKERS);
+    let (counts, others) = head[SHARES_COUNTS..].split_at_mut(workers);
+    let read: usize = counts.iter().map(|n| *n as usize).sum();
+    others.fill_with(|| rng.word());
+    let read = read.min(entries.len());
+    entries[read..].fill_with(|| rng.word());
 }
 
 /// In a graph: list places past the count, free places past theirs, records of ids that do not stand.
 pub fn graph(rng: &mut Rng, graph: &mut [u32]) {
-    let [capacity, listed, freed] = [graph[0], graph[2], graph[3]].map(|n| n as usize);
-    let standing = graph[4..4 + listed].to_vec();
-    graph[4 + listed..4 + capacity].fill_with(|| rng.word());
-    graph[4 + capacity + freed..4 + 2 * capacity].fill_with(|| rng.word());
-    for (id, record) in graph[4 + 2 * capacity..].chunks_mut(523).enumerate() {
+    let head = [GRAPH_CAPACITY, GRAPH_LISTED, GRAPH_FREED];
+    let [capacity, listed, freed] = head.map(|place| graph[place] as usize);
+    let list = &mut graph[GRAPH_LIST..][..capacity];
+    let standing = list[..listed].to_vec();
+    list[listed..].fill_with(|| rng.word());
+    graph[graph_free(capacity)..][..capacity][freed..].fill_with(|| rng.word());
+    let records = graph[graph_records(capacity)..].chunks_mut(CONTACT_SIZE);
+    for (id, record) in records.enumerate() {
         if !standing.contains(&(id as u32)) && rng.one_in(4) {
             record.fill_with(|| rng.word());
         }

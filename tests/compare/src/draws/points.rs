@@ -2,6 +2,7 @@
 
 use super::tables::*;
 use super::{Rng, Style};
+use reference::layout::*;
 use reference::*;
 
 impl Rng {
@@ -84,12 +85,27 @@ impl Rng {
         vec3(self.of(&OFFSETS), 0.0, self.of(&[0.0, 0.0, 0.1]))
     }
 
-    /// 5 to 32 points in one of four, and all 32 in one of sixteen, else 0 to 4.
-    pub fn point_count(&mut self) -> usize {
+    /// A number of points: up to as many as are stored.
+    pub fn few_points(&mut self) -> usize {
+        self.below(STORED_POINTS + 1)
+    }
+
+    /// More than are stored, up to as many as are proposed.
+    pub fn many_points(&mut self) -> usize {
+        STORED_POINTS + 1 + self.below(PROPOSED_POINTS - STORED_POINTS)
+    }
+
+    /// More than are proposed.
+    pub fn too_many_points(&mut self) -> usize {
+        PROPOSED_POINTS + 1 + self.below(3)
+    }
+
+    /// Many in one of four, and the most in one of sixteen, else few.
+    fn point_count(&mut self) -> usize {
         match self.below(16) {
-            0 => 32,
-            1..=4 => 5 + self.below(28),
-            _ => self.below(5),
+            0 => PROPOSED_POINTS,
+            1..=4 => self.many_points(),
+            _ => self.few_points(),
         }
     }
 
@@ -98,11 +114,11 @@ impl Rng {
         ContactManifold::new((0..points).map(|_| self.point(style, features)), normal)
     }
 
-    /// 0 to 6 manifolds, seldom 0.
+    /// Up to the most manifolds, seldom 0.
     pub fn proposal(&mut self) -> Vec<ContactManifold> {
         let count = match self.one_in(12) {
             true => 0,
-            false => 1 + self.below(6),
+            false => 1 + self.below(MANIFOLDS),
         };
         let (style, features) = (self.style(), self.below(4));
         (0..count)

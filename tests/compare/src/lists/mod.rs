@@ -9,6 +9,7 @@ use crate::draws::Rng;
 use crate::refusals::Refusals;
 use crate::sides::{self, Sides};
 use reference::ContactId;
+use reference::layout::*;
 use sardinerod::Addition;
 use std::fmt;
 
@@ -70,7 +71,7 @@ fn capacity(rng: &mut Rng, number: u64) -> usize {
         return 1 + rng.below(8);
     }
     match number / 50 % 6 {
-        0 => 256,
+        0 => MOST_CONTACTS,
         1 => 64,
         2 => 129,
         3 => 128,
@@ -85,7 +86,7 @@ fn reached_capacity(capacity: usize) {
             64 => "capacity: 64",
             128 => "capacity: 128",
             129 => "capacity: 129",
-            256 => "capacity: 256",
+            MOST_CONTACTS => "capacity: the largest",
             _ => "capacity: 65 to 70",
         }),
     }
@@ -123,8 +124,8 @@ impl List {
         let capacity = capacity(&mut rng, number);
         reached_capacity(capacity);
         let count = collider_count(&mut rng, capacity);
-        let mut colliders: Vec<u32> = (0..256).collect();
-        let mut bodies: Vec<u32> = (0..128).collect();
+        let mut colliders: Vec<u32> = (0..COLLIDERS as u32).collect();
+        let mut bodies: Vec<u32> = (0..BODIES as u32).collect();
         rng.shuffle(&mut colliders);
         rng.shuffle(&mut bodies);
         let settings = rng.settings();
@@ -183,8 +184,9 @@ impl List {
             }
             38 => {
                 reach!("call: empty graph");
-                let capacity = self.rng.of(&[0, 1, 2, 5, 63, 64, 255, 256, 257, u32::MAX]);
-                sides::empty_graph(capacity, refusals)
+                let most = MOST_CONTACTS as u32;
+                let capacities = [0, 1, 2, 5, 63, 64, most - 1, most, most + 1, u32::MAX];
+                sides::empty_graph(self.rng.of(&capacities), refusals)
             }
             _ => {
                 reach!("call: damaged, on copies");
@@ -201,11 +203,15 @@ impl List {
         damage::any_call(&mut self.rng, &self.sides, &shares, refusals)
     }
 
+    fn out_of_range(&mut self, limit: usize) -> u32 {
+        self.rng.of(&[limit as u32, limit as u32 + 1, u32::MAX])
+    }
+
     /// Of the list's colliders, at times one that is absent or out of range, at times the same twice.
     fn collider(&mut self) -> u32 {
         match self.rng.below(80) {
-            0 => self.rng.of(&[256, 257, u32::MAX]),
-            1 | 2 => self.rng.below(256) as u32,
+            0 => self.out_of_range(COLLIDERS),
+            1 | 2 => self.rng.below(COLLIDERS) as u32,
             _ => self.rng.of(&self.numbers).0,
         }
     }
@@ -214,8 +220,8 @@ impl List {
     fn named_body(&mut self) -> Option<u32> {
         match self.rng.below(60) {
             0..20 => None,
-            20 => Some(self.rng.of(&[128, 129, u32::MAX])),
-            _ => Some(self.rng.below(128) as u32),
+            20 => Some(self.out_of_range(BODIES)),
+            _ => Some(self.rng.below(BODIES) as u32),
         }
     }
 
@@ -281,9 +287,9 @@ impl List {
 
     fn prune(&mut self, refusals: &mut Refusals) -> Result<(), Difference> {
         let points = match self.rng.below(8) {
-            0 => self.rng.below(5),
-            1 => 33 + self.rng.below(3),
-            _ => 5 + self.rng.below(28),
+            0 => self.rng.few_points(),
+            1 => self.rng.too_many_points(),
+            _ => self.rng.many_points(),
         };
         let (style, features) = (self.rng.style(), self.rng.below(4));
         let manifold = self.rng.manifold(points, style, features);

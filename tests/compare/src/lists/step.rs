@@ -6,6 +6,7 @@ use crate::damage::unread;
 use crate::differences::Difference;
 use crate::draws::Style;
 use crate::refusals::Refusals;
+use reference::layout::*;
 use reference::{ContactId, ContactManifold, Entity, NarrowPhase, Vec3};
 use sardinerod::{Shares, World};
 
@@ -99,23 +100,23 @@ impl List {
             .collect()
     }
 
-    /// Over 6 manifolds, or over 32 points in one.
+    /// Too many manifolds, or too many points in one.
     fn propose_too_much(&mut self, id: ContactId) {
         let mut manifolds = self.rng.proposal();
         if self.rng.one_in(2) || manifolds.is_empty() {
-            let count = 7 + self.rng.below(3);
+            let count = MANIFOLDS + 1 + self.rng.below(3);
             manifolds = (0..count)
                 .map(|_| self.rng.manifold(1, Style::Coarse, 0))
                 .collect();
         } else {
-            let points = 33 + self.rng.below(3);
+            let points = self.rng.too_many_points();
             let m = self.rng.below(manifolds.len());
             manifolds[m] = self.rng.manifold(points, Style::Coarse, 0);
         }
         self.sides.propose(id, true, manifolds);
     }
 
-    /// The active pairs in any order, dealt to 1 to 8 workers.
+    /// The active pairs in any order, dealt to 1 worker or more.
     pub fn workers(&mut self) -> Vec<Vec<ContactId>> {
         let mut ids = self.sides.active();
         if !self.rng.one_in(4) {
@@ -124,7 +125,7 @@ impl List {
         if ids != self.sides.active() {
             reach!("an order other than the list's");
         }
-        let mut workers = vec![vec![]; 1 + self.rng.below(8)];
+        let mut workers = vec![vec![]; 1 + self.rng.below(MOST_WORKERS)];
         for id in ids {
             let worker = self.rng.below(workers.len());
             workers[worker].push(id);
@@ -140,7 +141,7 @@ impl List {
         let id = self.rng.of(&ids);
         match self.rng.below(5) {
             0 => workers.clear(),
-            1 => workers.resize(9, vec![]),
+            1 => workers.resize(MOST_WORKERS + 1, vec![]),
             2 => workers[w].push(id),
             3 => drop(workers[w].pop()),
             _ => {
@@ -189,9 +190,15 @@ impl List {
         shares: &Shares,
         refusals: &mut Refusals,
     ) -> Result<(), Difference> {
-        let (place, word) = self
-            .rng
-            .of(&[(5, 2), (5, u32::MAX), (7, 0), (7, 6), (9, 0), (9, 6)]);
+        let no_rule = RULES as u32 + 1;
+        let (place, word) = self.rng.of(&[
+            (SETTINGS_MATCH_CONTACTS, 2),
+            (SETTINGS_MATCH_CONTACTS, u32::MAX),
+            (SETTINGS_FRICTION_RULE, 0),
+            (SETTINGS_FRICTION_RULE, no_rule),
+            (SETTINGS_RESTITUTION_RULE, 0),
+            (SETTINGS_RESTITUTION_RULE, no_rule),
+        ]);
         let old = self.sides.world.settings_words()[place];
         self.sides.world.settings_words_mut()[place] = word;
         let answer = self.sides.step(workers, shares, refusals);
@@ -213,8 +220,8 @@ impl List {
                 .sides
                 .step(workers, &Shares::from_words(words), refusals);
         }
-        let other = self.sides.capacity as u32 % 256 + 1;
-        let world = World::new(other).unwrap();
+        let other = self.sides.capacity % MOST_CONTACTS + 1;
+        let world = World::new(other as u32).unwrap();
         let own = std::mem::replace(&mut self.sides.world, world);
         let answer = self.sides.step(workers, shares, refusals);
         self.sides.world = own;

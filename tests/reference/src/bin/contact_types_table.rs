@@ -1,13 +1,14 @@
 //! The table of crates/contact_types_table: manifolds pruned, and points matched:
 //! cargo run --release --offline --bin contact_types_table > ../../crates/contact_types_table/stdout
 
-use reference::tables::draws::{COARSE, OFFSETS, common, seeded};
+use reference::layout::MANIFOLDS;
+use reference::tables::draws::{COARSE, OFFSETS, common, few_points, many_points, seeded};
 use reference::tables::hash::bits;
 use reference::tables::reached::{Counts, reach};
 use reference::{ContactManifold, ContactPoint, PackedFeatureId, Vec2, Vec3, vec3};
 
 fn draw(key: u32, slot: u32) -> u32 {
-    seeded(20260, key, slot)
+    seeded(20260, key, slot as usize)
 }
 
 /// NaN and others of its kind, the infinities, the zeros, subnormal, huge and tiny numbers.
@@ -92,7 +93,7 @@ fn point(owner: u32, slot: u32, shape: u32, kind: u32, number_of: u32) -> Contac
 fn prune_case(c: u32) {
     let key = draw(c, 0);
     let shape = c % 10;
-    let count = 5 + draw(key, 1) % 28;
+    let count = many_points(draw(key, 1));
     let kind = draw(key, 3) % 5;
     let points = (0..count).map(|k| point(key, 100 + copied(shape, k), shape, kind, k));
     let mut m = ContactManifold::new(points, normal(key, 2));
@@ -168,7 +169,7 @@ fn manifold(case: u32, slot: u32) -> ContactManifold {
     let features = draw(case, 1) % 4;
     let anchors = draw(case, 2) % 4;
     let key = draw(case, slot);
-    let count = draw(key, 5) % 5;
+    let count = few_points(draw(key, 5));
     let points = (0..count).map(|j| contact(key, 1 + j, features, anchors));
     ContactManifold::new(points, Vec3::ZERO)
 }
@@ -225,7 +226,7 @@ const BRANCHES: [&str; 19] = [
 fn main() {
     (0..1000).for_each(prune_case);
     for c in 0..1000 {
-        match_case(c, "match", draw(draw(c, 1), 5) % 7);
+        match_case(c, "match", draw(draw(c, 1), 5) % (MANIFOLDS as u32 + 1));
     }
     for c in 1000..1300 {
         match_case(c, "match_one", 1);

@@ -1,6 +1,7 @@
 //! The stack of crates/settling_stack: boxes that fall, shift and are lifted:
 //! cargo run --release --offline --bin settling_stack > ../../crates/settling_stack/stdout
 
+use reference::layout::*;
 use reference::tables::calls::{Rows, Stepped, add, step};
 use reference::tables::hash::{Hash, bits, graph_hash};
 use reference::tables::reached::Counts;
@@ -12,11 +13,28 @@ const FLOOR: usize = 0;
 
 const BOXES: usize = 8;
 
-/// Coefficients and rules: friction, restitution.
+/// Writes words from a place on.
+fn put(row: &mut [u32], at: usize, words: &[u32]) {
+    row[at..at + words.len()].copy_from_slice(words);
+}
+
+fn put_floats(row: &mut [u32], at: usize, floats: &[f32]) {
+    let words: Vec<u32> = floats.iter().copied().map(bits).collect();
+    put(row, at, &words);
+}
+
+/// Friction and restitution are a coefficient and a rule.
 fn settings() -> Vec<u32> {
-    let floats = [1.0 / 64.0, 1.0, 0.005, 0.05, 0.99].map(bits);
-    let rest = [1, bits(0.5), 1, bits(0.1), 2];
-    [floats, rest].concat()
+    let mut words = vec![0; SETTINGS_LENGTH];
+    words[SETTINGS_STEP_TIME] = bits(1.0 / 64.0);
+    words[SETTINGS_LENGTH_UNIT] = bits(1.0);
+    words[SETTINGS_CONTACT_TOLERANCE] = bits(0.005);
+    words[SETTINGS_RECYCLE_DISTANCE] = bits(0.05);
+    words[SETTINGS_RECYCLE_COSINE] = bits(0.99);
+    words[SETTINGS_MATCH_CONTACTS] = 1;
+    put(&mut words, SETTINGS_FRICTION, &[bits(0.5), 1]);
+    put(&mut words, SETTINGS_RESTITUTION, &[bits(0.1), 2]);
+    words
 }
 
 // ---- Boxes: the floor is number 0. Each is a collider with a body of its number.
@@ -41,46 +59,55 @@ fn stack() -> Stack {
 }
 
 /// Present for one in m of the numbers: mark, coefficient, rule.
-fn coefficient_words(n: usize, m: usize) -> [u32; 3] {
-    [(n % m == 1) as u32, bits(0.3), 1 + n as u32 % 5]
+fn coefficient_words(n: usize, m: usize) -> [u32; 1 + COEFFICIENT] {
+    [(n % m == 1) as u32, bits(0.3), 1 + (n % RULES) as u32]
 }
 
 /// The box is larger by 0.05 on each side. Box 2 is not there in one of a hundred steps, box 6 is a sensor for fifty in 150.
-fn collider_words(stack: &Stack, n: usize, step: u32) -> Vec<u32> {
+fn collider_words(stack: &Stack, n: usize, step: u32) -> [u32; COLLIDER_SIZE] {
     let p = stack[n].position;
     let half = |axis: usize| {
         if n == FLOOR && axis != 1 { 5.05 } else { 0.55 }
     };
     let present = !(n == 2 && step % 100 == 95);
     let sensor = n == 6 && step / 50 % 3 == 1;
-    let mut words = vec![present as u32, 1, n as u32];
-    words.extend((0..3).map(|axis| bits(p[axis] - half(axis))));
-    words.extend((0..3).map(|axis| bits(p[axis] + half(axis))));
-    words.extend(p.map(bits));
-    words.extend([1, u32::MAX]);
-    words.extend(coefficient_words(n, 2));
-    words.extend(coefficient_words(n, 3));
-    words.extend([(n == 5) as u32, bits(0.003), sensor as u32]);
+    let lower = [0, 1, 2].map(|axis| p[axis] - half(axis));
+    let upper = [0, 1, 2].map(|axis| p[axis] + half(axis));
+    let mut words = [0; COLLIDER_SIZE];
+    words[PRESENCE] = present as u32;
+    put(&mut words, COLLIDER_BODY, &[1, n as u32]);
+    put_floats(&mut words, COLLIDER_LOWER, &lower);
+    put_floats(&mut words, COLLIDER_UPPER, &upper);
+    put_floats(&mut words, COLLIDER_POSITION, &p);
+    words[COLLIDER_MEMBERSHIPS] = 1;
+    words[COLLIDER_FILTERS] = u32::MAX;
+    put(&mut words, COLLIDER_FRICTION, &coefficient_words(n, 2));
+    put(&mut words, COLLIDER_RESTITUTION, &coefficient_words(n, 3));
+    put(&mut words, COLLIDER_MARGIN, &[(n == 5) as u32, bits(0.003)]);
+    words[COLLIDER_SENSOR] = sensor as u32;
     words
 }
 
 /// Box 7 has no body for four steps in a hundred.
-fn body_words(stack: &Stack, n: usize, step: u32) -> Vec<u32> {
+fn body_words(stack: &Stack, n: usize, step: u32) -> [u32; BODY_SIZE] {
     let Placed {
         position,
         velocity,
         rotation,
     } = stack[n];
     let present = !(n == 7 && step % 100 / 4 == 21);
-    let mut words = vec![present as u32, (n == FLOOR) as u32];
-    words.extend(position.map(bits));
-    words.extend(rotation.map(bits));
-    words.extend([0; 3]);
-    words.extend(velocity.map(bits));
-    words.extend([0; 3]);
-    words.extend(coefficient_words(n, 4));
-    words.extend([(n == 3) as u32, bits(0.002)]);
-    words.extend([(n == 6 || n == 8) as u32, bits(0.1), bits(0.9)]);
+    let swept = n == 6 || n == 8;
+    let mut words = [0; BODY_SIZE];
+    words[PRESENCE] = present as u32;
+    words[BODY_STATIC] = (n == FLOOR) as u32;
+    put_floats(&mut words, BODY_POSITION, &position);
+    put_floats(&mut words, BODY_ROTATION, &rotation);
+    put_floats(&mut words, BODY_LINEAR_VELOCITY, &velocity);
+    put(&mut words, BODY_FRICTION, &coefficient_words(n, 4));
+    put(&mut words, BODY_MARGIN, &[(n == 3) as u32, bits(0.002)]);
+    let maximum = [swept as u32, bits(0.1)];
+    put(&mut words, BODY_SPECULATIVE_MAXIMUM, &maximum);
+    words[BODY_SWEEP_RADIUS] = bits(0.9);
     words
 }
 
@@ -166,68 +193,80 @@ fn add_near(graph: &mut ContactGraph, stack: &Stack, step: u32) {
     }
 }
 
-/// Corner k of a box's lower side.
-fn corner(k: u32) -> [f32; 3] {
-    let side = |upper: u32| if upper == 0 { -0.5 } else { 0.5 };
+/// Of a box's lower side.
+const CORNERS: usize = 4;
+
+fn corner(k: usize) -> [f32; 3] {
+    let side = |upper: usize| if upper == 0 { -0.5 } else { 0.5 };
     [side(k % 2), -0.5, side(k / 2)]
 }
 
-fn point_words(stack: &Stack, below: usize, above: usize, k: u32) -> Vec<u32> {
+fn point_words(stack: &Stack, below: usize, above: usize, k: usize) -> [u32; PROPOSED_POINT_SIZE] {
     let p1 = stack[below].position;
     let p2 = stack[above].position;
     let anchor2 = corner(k);
     let world = [0, 1, 2].map(|axis| p2[axis] + anchor2[axis]);
     let anchor1 = [0, 1, 2].map(|axis| world[axis] - p1[axis]);
     let penetration = top(&stack[below]) - bottom(&stack[above]);
-    let mut words = [anchor1, anchor2, world].concat();
-    words.push(penetration);
-    let mut words: Vec<u32> = words.into_iter().map(bits).collect();
-    words.extend([below, above].map(|n| 1 + 4 * n as u32 + k));
+    let mut words = [0; PROPOSED_POINT_SIZE];
+    put_floats(&mut words, PROPOSED_POINT_ANCHOR1, &anchor1);
+    put_floats(&mut words, PROPOSED_POINT_ANCHOR2, &anchor2);
+    put_floats(&mut words, PROPOSED_POINT_POSITION, &world);
+    words[PROPOSED_POINT_PENETRATION] = bits(penetration);
+    let features = [below, above].map(|n| (1 + CORNERS * n + k) as u32);
+    put(&mut words, PROPOSED_POINT_FEATURES, &features);
     words
 }
 
 /// The hook says no in three of fifty steps. A manifold where the boxes are at most 0.02 apart.
-fn proposal_words(stack: &Stack, pair: &ContactPair, step: u32) -> Vec<u32> {
+fn propose(proposal: &mut [u32], stack: &Stack, pair: &ContactPair, step: u32) {
     let (below, above) = (pair.collider1.0 as usize, pair.collider2.0 as usize);
     let near = top(&stack[below]) - bottom(&stack[above]) > -0.02;
-    let mut words = vec![(step % 50 >= 3) as u32, near as u32, 4, 0, bits(1.0), 0];
-    for k in 0..4 {
-        words.extend(point_words(stack, below, above, k));
+    proposal[PROPOSAL_HOOK] = (step % 50 >= 3) as u32;
+    proposal[PROPOSAL_COUNT] = near as u32;
+    let manifold = &mut proposal[proposed_manifold(0)..];
+    manifold[PROPOSED_MANIFOLD_COUNT] = CORNERS as u32;
+    put_floats(manifold, PROPOSED_MANIFOLD_NORMAL, &[0.0, 1.0, 0.0]);
+    for k in 0..CORNERS {
+        let point = point_words(stack, below, above, k);
+        put(manifold, proposed_point(k), &point);
     }
-    words
 }
 
-/// Three workers: the listed pairs in turn.
+const WORKERS: usize = 3;
+
+/// The listed pairs in turn.
 fn share_words(graph: &ContactGraph) -> Vec<u32> {
     let ids: Vec<u32> = graph.active_pairs.iter().map(|p| p.contact_id.0).collect();
-    let own = |w: usize| -> Vec<u32> { ids.iter().skip(w).step_by(3).copied().collect() };
-    let mut words = vec![3];
-    words.extend((0..3).map(|w| own(w).len() as u32));
-    words.resize(9, 0);
-    words.extend((0..3).flat_map(own));
-    words.resize(9 + CAPACITY, 0);
+    let own = |w: usize| -> Vec<u32> { ids.iter().skip(w).step_by(WORKERS).copied().collect() };
+    let mut words = vec![0; SHARES_ENTRIES + CAPACITY];
+    words[SHARES_WORKERS] = WORKERS as u32;
+    for w in 0..WORKERS {
+        words[SHARES_COUNTS + w] = own(w).len() as u32;
+    }
+    let entries: Vec<u32> = (0..WORKERS).flat_map(own).collect();
+    put(&mut words, SHARES_ENTRIES, &entries);
     words
-}
-
-fn put(row: &mut [u32], at: usize, words: &[u32]) {
-    row[at..at + words.len()].copy_from_slice(words);
 }
 
 fn fill(rows: &mut Rows, graph: &ContactGraph, stack: &Stack, step: u32) {
     for n in 0..=BOXES {
-        put(&mut rows.colliders, 23 * n, &collider_words(stack, n, step));
-        put(&mut rows.bodies, 26 * n, &body_words(stack, n, step));
+        let collider = collider_words(stack, n, step);
+        put(&mut rows.colliders, COLLIDER_SIZE * n, &collider);
+        let body = body_words(stack, n, step);
+        put(&mut rows.bodies, BODY_SIZE * n, &body);
     }
     for pair in &graph.active_pairs {
-        let at = 2330 * pair.contact_id.0 as usize;
-        put(&mut rows.proposals, at, &proposal_words(stack, pair, step));
+        let at = PROPOSAL_SIZE * pair.contact_id.0 as usize;
+        propose(&mut rows.proposals[at..], stack, pair, step);
     }
     rows.shares = share_words(graph);
 }
 
 // ---- Impulses, made up.
 
-fn impulse(step: u32, id: u32, point: usize, k: u32) -> f32 {
+/// That at place k of a point.
+fn impulse(step: u32, id: u32, point: usize, k: usize) -> f32 {
     let b = step as u64 * 7919 + id as u64 * 104729 + point as u64 * 1299709 + k as u64 * 15485863;
     f32::from_bits(0x3f000000 + (b % 4294967296 % 8388608) as u32)
 }
@@ -237,10 +276,12 @@ fn write_impulses(graph: &mut ContactGraph, step: u32) {
         let id = pair.contact_id.0;
         for manifold in &mut pair.manifolds {
             for (q, point) in manifold.points.iter_mut().enumerate() {
-                point.normal_impulse = impulse(step, id, q, 11);
-                point.warm_start_normal_impulse = impulse(step, id, q, 13);
-                point.warm_start_tangent_impulse.x = impulse(step, id, q, 14);
-                point.warm_start_tangent_impulse.y = impulse(step, id, q, 15);
+                let impulse = |k: usize| impulse(step, id, q, k);
+                point.normal_impulse = impulse(POINT_NORMAL_IMPULSE);
+                point.warm_start_normal_impulse = impulse(POINT_WARM_START_NORMAL_IMPULSE);
+                let tangent = &mut point.warm_start_tangent_impulse;
+                tangent.x = impulse(POINT_WARM_START_TANGENT_IMPULSE);
+                tangent.y = impulse(POINT_WARM_START_TANGENT_IMPULSE2);
             }
         }
     }

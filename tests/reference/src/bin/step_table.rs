@@ -2,6 +2,7 @@
 //! cargo run --release --offline --bin step_table > ../../crates/step_table/stdout
 
 use reference::branches::Branches;
+use reference::layout::*;
 use reference::tables::calls::{Rows, Stepped, add, step};
 use reference::tables::draws::*;
 use reference::tables::hash::{bits, graph_hash};
@@ -11,7 +12,7 @@ use reference::{Addition, ContactGraph, ContactId, Entity};
 // ---- The lists' own draws.
 
 /// A draw of a draw: two draws by one key lean on each other too much.
-fn choice(key: u32, slot: u32) -> u32 {
+fn choice(key: u32, slot: usize) -> u32 {
     draw(draw(key, slot), 0)
 }
 
@@ -25,11 +26,11 @@ fn list_capacity(list: u32) -> usize {
 }
 
 /// Six give room for fifteen pairs.
-fn list_colliders(list: u32) -> u32 {
+fn list_colliders(list: u32) -> usize {
     if list_capacity(list) == 64 {
         6
     } else {
-        4 + choice(list, 61) % 3
+        4 + choice(list, 61) as usize % 3
     }
 }
 
@@ -52,33 +53,12 @@ fn kind(call: u32, n: u32, capacity: usize) -> Kind {
     }
 }
 
-fn draw_settings(rows: &mut Rows, key: u32) {
-    for (i, w) in rows.settings.iter_mut().enumerate() {
-        *w = setting_word(key, i as u32);
-    }
-}
-
-fn draw_collider(rows: &mut Rows, key: u32, n: u32) {
-    for (i, w) in rows.colliders[23 * n as usize..][..23]
-        .iter_mut()
-        .enumerate()
-    {
-        *w = collider_word(key, n, i as u32);
-    }
-}
-
-fn draw_body(rows: &mut Rows, key: u32, n: u32) {
-    for (i, w) in rows.bodies[26 * n as usize..][..26].iter_mut().enumerate() {
-        *w = body_word(key, n, i as u32);
-    }
-}
-
 /// Position and rotation, word by word.
-fn move_body(rows: &mut Rows, key: u32, n: u32, wild: bool) {
+fn move_body(rows: &mut Rows, key: u32, n: usize, wild: bool) {
     let owner = draw(key, 20 + n);
-    for i in 2..9 {
-        let w = &mut rows.bodies[26 * n as usize + i];
-        *w = moved_word(owner, i as u32, wild, *w);
+    for i in BODY_POSITION..BODY_CENTER_OF_MASS {
+        let w = &mut rows.bodies[BODY_SIZE * n + i];
+        *w = moved_word(owner, i, wild, *w);
     }
 }
 
@@ -93,9 +73,9 @@ const WILD: [u32; 8] = [
 ];
 
 /// One in four words of a position is moved, and one in eight of a rotation; of a wild body these are others.
-fn moved_word(owner: u32, i: u32, wild: bool, w: u32) -> u32 {
+fn moved_word(owner: u32, i: usize, wild: bool, w: u32) -> u32 {
     let d = choice(owner, 80 + i);
-    let n = if i < 5 { 4 } else { 8 };
+    let n = if i < BODY_ROTATION { 4 } else { 8 };
     let k = (d / n % 8) as usize;
     if d % n != 0 {
         w
@@ -106,35 +86,35 @@ fn moved_word(owner: u32, i: u32, wild: bool, w: u32) -> u32 {
     }
 }
 
-/// Of `colliders` colliders, at times one that is absent; at times the same twice.
-fn named_colliders(call: u32, colliders: u32) -> [u32; 2] {
-    let (d, e) = (choice(call, 70), choice(call, 71));
+/// Of `colliders` colliders, at times one of the last two, which are absent; at times the same twice.
+fn named_colliders(call: u32, colliders: usize) -> [Entity; 2] {
+    let [d, e] = [70, 71].map(|slot| choice(call, slot) as usize);
     let first = match d % 40 {
-        0 => 254,
+        0 => COLLIDERS - 2,
         _ => d / 40 % colliders,
     };
     let second = match e % 40 {
-        0 => 255,
+        0 => COLLIDERS - 1,
         1..=3 => first,
         _ => (first + 1 + e / 40 % (colliders - 1)) % colliders,
     };
-    [first, second]
+    [first, second].map(|n| Entity(n as u32))
 }
 
 /// A body in two of three.
-fn named_body(call: u32, slot: u32) -> Option<Entity> {
+fn named_body(call: u32, slot: usize) -> Option<Entity> {
     if choice(call, slot) % 3 == 0 {
         None
     } else {
-        Some(Entity(choice(call, slot + 1) % 128))
+        Some(Entity(choice(call, slot + 1) % BODIES as u32))
     }
 }
 
-fn addition(call: u32, colliders: u32) -> Addition {
+fn addition(call: u32, colliders: usize) -> Addition {
     let [collider1, collider2] = named_colliders(call, colliders);
     Addition {
-        collider1: Entity(collider1),
-        collider2: Entity(collider2),
+        collider1,
+        collider2,
         body1: named_body(call, 72),
         body2: named_body(call, 74),
         contact_events: choice(call, 76) % 3 != 0,
@@ -144,31 +124,31 @@ fn addition(call: u32, colliders: u32) -> Addition {
 }
 
 /// Settings, colliders and bodies: kept, or some drawn anew, or the bodies moved a little.
-fn draw_world(rows: &mut Rows, call: u32, colliders: u32) {
+fn draw_world(rows: &mut Rows, call: u32, colliders: usize) {
     if choice(call, 61) % 8 == 0 {
-        draw_settings(rows, call);
+        rows.draw_settings(call);
     }
-    let one = choice(call, 63) % colliders;
+    let one = choice(call, 63) as usize % colliders;
     match choice(call, 62) % 16 {
         0 => {
             reach("world: all anew");
             for n in 0..colliders {
-                draw_collider(rows, call, n);
-                draw_body(rows, call, n);
+                rows.draw_collider(call, n);
+                rows.draw_body(call, n);
             }
         }
         1..=3 => {
             reach("world: a collider and its body anew");
-            draw_collider(rows, call, one);
-            draw_body(rows, call, one);
+            rows.draw_collider(call, one);
+            rows.draw_body(call, one);
         }
         4..=5 => {
             reach("world: a collider anew");
-            draw_collider(rows, call, one);
+            rows.draw_collider(call, one);
         }
         6 => {
             reach("world: a body anew");
-            draw_body(rows, call, one);
+            rows.draw_body(call, one);
         }
         7..=12 => {
             reach("world: bodies moved");
@@ -191,35 +171,37 @@ fn inactive_id(graph: &ContactGraph, call: u32) -> u32 {
 }
 
 /// One past a limit, or the largest number.
-fn over(limit: u32, d: u32) -> u32 {
-    if d % 2 == 0 { limit + 1 } else { u32::MAX }
+fn over(limit: usize, d: u32) -> u32 {
+    if d % 2 == 0 {
+        limit as u32 + 1
+    } else {
+        u32::MAX
+    }
 }
 
 /// Those of the active pairs, at times with a count that is too large: of manifolds, of points, or of an id that is not active.
 fn draw_proposals(rows: &mut Rows, graph: &ContactGraph, call: u32) {
     for pair in &graph.active_pairs {
-        let id = pair.contact_id.0;
-        let key = choice(call, 300 + id);
-        for i in 0..2330 {
-            rows.proposals[2330 * id as usize + i] = proposal_word(key, i as u32);
-        }
+        let id = pair.contact_id.0 as usize;
+        rows.draw_proposal(choice(call, 300 + id), id);
     }
-    let (d, e) = (choice(call, 64), choice(call, 65));
-    let pairs = graph.active_pairs.len() as u32;
+    let (d, e) = (choice(call, 64), choice(call, 65) as usize);
+    let pairs = graph.active_pairs.len();
     match d % 24 {
         kind @ 0..=1 if pairs > 0 => {
-            let id = graph.active_pairs[(e % pairs) as usize].contact_id.0;
-            let at = 2330 * id as usize;
+            let id = graph.active_pairs[e % pairs].contact_id.0 as usize;
+            let proposal = &mut rows.proposals[PROPOSAL_SIZE * id..];
             if kind == 0 {
-                rows.proposals[at + 1] = over(6, d / 24);
+                proposal[PROPOSAL_COUNT] = over(MANIFOLDS, d / 24);
             } else {
-                rows.proposals[at + 2 + 388 * (e / 64 % 6) as usize] = over(32, d / 24);
+                let manifold = proposed_manifold(e / 64 % MANIFOLDS);
+                proposal[manifold + PROPOSED_MANIFOLD_COUNT] = over(PROPOSED_POINTS, d / 24);
             }
         }
         2 => {
             let id = inactive_id(graph, call) as usize;
-            if 2330 * id < rows.proposals.len() {
-                rows.proposals[2330 * id + 1] = over(6, d / 24);
+            if PROPOSAL_SIZE * id < rows.proposals.len() {
+                rows.proposals[PROPOSAL_SIZE * id + PROPOSAL_COUNT] = over(MANIFOLDS, d / 24);
             }
         }
         _ => {}
@@ -227,55 +209,58 @@ fn draw_proposals(rows: &mut Rows, graph: &ContactGraph, call: u32) {
 }
 
 /// Which of the workers takes the pair at a place.
-fn worker_of(call: u32, place: usize, workers: u32) -> usize {
-    1 + (choice(call, 500 + place as u32) % workers) as usize
+fn worker_of(call: u32, place: usize, workers: usize) -> usize {
+    choice(call, 500 + place) as usize % workers
 }
 
-/// The active pairs in any order, dealt to 1 to 8 workers; any words where none are read; at times damaged.
+/// The active pairs in any order, dealt to 1 worker or more; any words where none are read; at times damaged.
 fn draw_shares(rows: &mut Rows, graph: &ContactGraph, call: u32) {
-    let row = &mut rows.shares;
-    for (i, w) in row.iter_mut().enumerate() {
-        *w = choice(call, 600 + i as u32);
+    for (i, w) in rows.shares.iter_mut().enumerate() {
+        *w = choice(call, 600 + i);
     }
+    let (head, entries) = rows.shares.split_at_mut(SHARES_ENTRIES);
     let pairs = graph.active_pairs.len();
-    for (k, pair) in graph.active_pairs.iter().enumerate() {
-        row[9 + k] = pair.contact_id.0;
+    for (entry, pair) in entries.iter_mut().zip(&graph.active_pairs) {
+        *entry = pair.contact_id.0;
     }
     for k in (1..pairs).rev() {
-        let other = choice(call, 400 + k as u32) as usize % (k + 1);
-        row.swap(9 + k, 9 + other);
+        let other = choice(call, 400 + k) as usize % (k + 1);
+        entries.swap(k, other);
     }
-    let workers = 1 + choice(call, 67) % 8;
-    row[0] = workers;
-    row[1..1 + workers as usize].fill(0);
+    let workers = 1 + choice(call, 67) as usize % MOST_WORKERS;
+    head[SHARES_WORKERS] = workers as u32;
+    let counts = &mut head[SHARES_COUNTS..];
+    counts[..workers].fill(0);
     for k in 0..pairs {
-        row[worker_of(call, k, workers)] += 1;
+        counts[worker_of(call, k, workers)] += 1;
     }
-    damage_shares(row, graph, call, workers);
+    damage_shares(&mut rows.shares, graph, call, workers);
 }
 
-fn damage_shares(row: &mut [u32], graph: &ContactGraph, call: u32, workers: u32) {
+fn damage_shares(row: &mut [u32], graph: &ContactGraph, call: u32, workers: usize) {
     let pairs = graph.active_pairs.len();
     let d = choice(call, 68);
-    let (first, inactive) = (row[9], inactive_id(graph, call));
-    let mut append = |id: u32| {
-        row[workers as usize] += 1;
-        if 9 + pairs < row.len() {
-            row[9 + pairs] = id;
-        }
-    };
+    let (head, entries) = row.split_at_mut(SHARES_ENTRIES);
+    let (number, counts) = head.split_at_mut(SHARES_COUNTS);
+    let number = &mut number[SHARES_WORKERS];
+    let (first, inactive) = (entries[0], inactive_id(graph, call));
     match (d % 48, pairs) {
-        (0, _) => row[0] = 0,
+        (0, _) => *number = 0,
         (1, _) => {
-            row[0] = over(8, d / 48);
-            row[1 + workers as usize..9].fill(0);
+            *number = over(MOST_WORKERS, d / 48);
+            counts[workers..].fill(0);
         }
-        (2, 2..) => row[9] = row[9 + pairs - 1],
-        (3, 1..) => append(first),
-        (4, 1..) => row[worker_of(call, pairs - 1, workers)] -= 1,
-        (5, 1..) => row[9] = inactive,
-        (6, _) => append(inactive),
-        (7, _) => row[1] = u32::MAX,
+        (2, 2..) => entries[0] = entries[pairs - 1],
+        (4, 1..) => counts[worker_of(call, pairs - 1, workers)] -= 1,
+        (5, 1..) => entries[0] = inactive,
+        (7, _) => counts[0] = u32::MAX,
+        // One more for the last worker.
+        (3, 1..) | (6, _) => {
+            counts[workers - 1] += 1;
+            if let Some(entry) = entries.get_mut(pairs) {
+                *entry = if d % 48 == 3 { first } else { inactive };
+            }
+        }
         _ => {}
     }
 }
@@ -283,16 +268,25 @@ fn damage_shares(row: &mut [u32], graph: &ContactGraph, call: u32, workers: u32)
 /// Half of the impulses of the stored points.
 fn write_impulses(graph: &mut ContactGraph, call: u32) {
     for pair in graph.active_pairs.iter_mut() {
-        let owner = choice(call, 300 + pair.contact_id.0);
+        let owner = choice(call, 300 + pair.contact_id.0 as usize);
         for (m, manifold) in pair.manifolds.iter_mut().enumerate() {
             for (q, point) in manifold.points.iter_mut().enumerate() {
                 for (k, impulse) in [
-                    (11, &mut point.normal_impulse),
-                    (13, &mut point.warm_start_normal_impulse),
-                    (14, &mut point.warm_start_tangent_impulse.x),
-                    (15, &mut point.warm_start_tangent_impulse.y),
+                    (POINT_NORMAL_IMPULSE, &mut point.normal_impulse),
+                    (
+                        POINT_WARM_START_NORMAL_IMPULSE,
+                        &mut point.warm_start_normal_impulse,
+                    ),
+                    (
+                        POINT_WARM_START_TANGENT_IMPULSE,
+                        &mut point.warm_start_tangent_impulse.x,
+                    ),
+                    (
+                        POINT_WARM_START_TANGENT_IMPULSE2,
+                        &mut point.warm_start_tangent_impulse.y,
+                    ),
                 ] {
-                    let place = (37 + 81 * m + 9 + 18 * q) as u32 + k;
+                    let place = contact_point(m, q) + k;
                     if one_in(owner, place, 2) == 1 {
                         *impulse = f32::from_bits(float(owner, 600 + place, style(owner)));
                         reach(if impulse.is_nan() {
@@ -311,7 +305,7 @@ fn write_impulses(graph: &mut ContactGraph, call: u32) {
 
 struct List {
     capacity: usize,
-    colliders: u32,
+    colliders: usize,
     graph: ContactGraph,
     rows: Rows,
     /// Of the last step that was not refused.
@@ -325,10 +319,10 @@ impl List {
         reach(format!("capacity: {capacity}"));
         reach(format!("colliders: {colliders}"));
         let mut rows = Rows::new(capacity);
-        draw_settings(&mut rows, list);
+        rows.draw_settings(list);
         for n in 0..colliders {
-            draw_collider(&mut rows, list, n);
-            draw_body(&mut rows, list, n);
+            rows.draw_collider(list, n);
+            rows.draw_body(list, n);
         }
         Self {
             capacity,
@@ -375,7 +369,7 @@ fn run(l: u32) -> u32 {
     let calls = 12 + choice(key, 62) % 19;
     let mut list = List::new(key);
     for n in 0..calls {
-        let call = choice(key, 1000 + n);
+        let call = choice(key, 1000 + n as usize);
         let answer = match kind(call, n, list.capacity) {
             Kind::Addition => list.add(call),
             Kind::Step => list.step(call),
@@ -424,7 +418,7 @@ const BRANCHES: [&str; 43] = [
     "refused 7: an id twice",
     "refused 7: more listed than the capacity",
     "refused 7: no worker",
-    "refused 7: over 8 workers",
+    "refused 7: too many workers",
     "removals in a step: 0",
     "removals in a step: 1",
     "removals in a step: several",
@@ -451,17 +445,17 @@ const SELDOM: [&str; 5] = [
 fn main() {
     let lines: u32 = (0..LISTS).map(run).sum();
     let mut own: Vec<String> = BRANCHES.iter().map(|b| b.to_string()).collect();
-    for n in 1..9 {
-        own.push(format!("capacity: {n}"));
-        own.push(format!("workers: {n}"));
-    }
+    own.extend((1..=8).map(|n| format!("capacity: {n}")));
+    own.extend((1..=MOST_WORKERS).map(|n| format!("workers: {n}")));
     own.push("capacity: 64".to_string());
     let often = Branches::NAMES.iter().filter(|b| !SELDOM.contains(b));
     let counts = Counts::taken();
     counts.none_but(&own);
     counts.at_least(5, own.iter().map(String::as_str));
     counts.at_least(5, often.copied());
-    let steps: u32 = (1..9).map(|n| counts.of(&format!("workers: {n}"))).sum();
+    let steps: u32 = (1..=MOST_WORKERS)
+        .map(|n| counts.of(&format!("workers: {n}")))
+        .sum();
     let total = own.len() + Branches::NAMES.len() - SELDOM.len();
     eprintln!("{LISTS} lists, {lines} lines, {steps} steps not refused, {total} branches");
     assert!(lines <= 3000);

@@ -2,6 +2,7 @@
 //! cargo run --release --offline --bin update_table > ../../crates/update_table/stdout
 
 use reference::branches::Branches;
+use reference::layout::*;
 use reference::tables::calls::Rows;
 use reference::tables::draws::*;
 use reference::tables::hash::{Hash, bits};
@@ -10,21 +11,24 @@ use reference::{CollisionDiagnostics, ContactGraph, ContactId, Edges, Quat, Vec3
 
 // ---- The draws of the contact's record.
 
-fn point_word(case: u32, owner: u32, j: u32) -> u32 {
+fn point_word(case: u32, owner: u32, j: usize) -> u32 {
     match j {
-        0..=5 => anchor(owner, j, style(case)),
-        9 | 10 => penetration(owner, j, style(case)),
-        16 | 17 => feature(case, owner, j),
+        POINT_ANCHOR1..POINT_POSITION => anchor(owner, j, style(case)),
+        POINT_PENETRATION | POINT_BASE_PENETRATION => penetration(owner, j, style(case)),
+        POINT_FEATURES.. => feature(case, owner, j),
         _ => float(owner, j, style(case)),
     }
 }
 
-fn manifold_word(case: u32, owner: u32, r: u32) -> u32 {
+fn manifold_word(case: u32, owner: u32, r: usize) -> u32 {
     match r {
-        0 => draw(owner, 0) % 5,
-        1..=3 => normal(owner, r - 1, style(case)),
-        4..=8 => float(owner, r, style(case)),
-        _ => point_word(case, draw(owner, 100 + (r - 9) / 18), (r - 9) % 18),
+        MANIFOLD_COUNT => few_points(draw(owner, r)),
+        MANIFOLD_NORMAL..MANIFOLD_FRICTION => normal(owner, r - MANIFOLD_NORMAL, style(case)),
+        MANIFOLD_FRICTION..MANIFOLD_POINTS => float(owner, r, style(case)),
+        MANIFOLD_POINTS.. => {
+            let k = r - MANIFOLD_POINTS;
+            point_word(case, draw(owner, 100 + k / POINT_SIZE), k % POINT_SIZE)
+        }
     }
 }
 
@@ -33,59 +37,65 @@ fn swapped(owner: u32) -> bool {
     draw(owner, 60) % 8 == 0
 }
 
-/// At times a collider that is absent.
-fn collider_number(owner: u32, i: u32) -> u32 {
-    if draw(owner, i) % 80 == 0 {
-        254 + i
+/// Collider 0 or 1, at times one of the last two, which are absent.
+fn collider_number(owner: u32, i: usize) -> u32 {
+    let n = i - CONTACT_COLLIDER1;
+    let number = if draw(owner, i) % 80 == 0 {
+        COLLIDERS - 2 + n
     } else if swapped(owner) {
-        1 - i
+        1 - n
     } else {
-        i
+        n
+    };
+    number as u32
+}
+
+/// The word at place i of a mark and a number: behind a mark of 0 any word.
+fn named_word(owner: u32, mark: usize, i: usize) -> u32 {
+    match i - mark {
+        0 => one_in(owner, mark, 2),
+        _ if one_in(owner, mark, 2) == 0 => draw(owner, i),
+        _ => draw(owner, i) % BODIES as u32,
     }
 }
 
-/// A mark and a number: behind a mark of 0 any word.
-fn named_word(owner: u32, slot: u32, j: u32) -> u32 {
-    match j {
-        0 => one_in(owner, slot, 2),
-        _ if one_in(owner, slot, 2) == 0 => draw(owner, slot + 1),
-        _ => draw(owner, slot + 1) % 128,
-    }
-}
-
-fn count_change(owner: u32) -> u32 {
-    let d = draw(owner, 18);
+/// As many manifolds more or fewer as there can be.
+fn count_change(d: u32) -> u32 {
     if d % 2 == 0 {
-        d / 2 % 7
+        d / 2 % (MANIFOLDS as u32 + 1)
     } else {
-        0xffffffff - d / 2 % 6
+        0xffffffff - d / 2 % MANIFOLDS as u32
     }
 }
 
-fn flag_word(owner: u32, i: u32) -> u32 {
+fn flag_word(owner: u32, i: usize) -> u32 {
     match i {
-        9 => 1 - one_in(owner, i, 3),
-        10 => one_in(owner, i, 16),
-        17 => one_in(owner, i, 3),
+        CONTACT_TOUCHING => 1 - one_in(owner, i, 3),
+        CONTACT_DISJOINT_AABB => one_in(owner, i, 16),
+        CONTACT_MODIFY_CONTACTS => one_in(owner, i, 3),
         _ => one_in(owner, i, 2),
     }
 }
 
 /// All but the cache's words.
-fn record_word(case: u32, i: u32) -> u32 {
+fn record_word(case: u32, i: usize) -> u32 {
     let owner = draw(case, 40);
     match i {
-        0 | 1 => collider_number(owner, i),
-        2 | 3 => named_word(owner, 2, i - 2),
-        4 | 5 => named_word(owner, 4, i - 4),
-        6 => draw(owner, 6) % 256,
-        7..=17 => flag_word(owner, i),
-        18 => count_change(owner),
-        19 => SPECULATIVE[(draw(owner, 19) % 16) as usize],
-        20 => 1 - one_in(owner, 20, 10),
-        36 => draw(owner, 36) % 7,
-        37.. => manifold_word(case, draw(owner, 100 + (i - 37) / 81), (i - 37) % 81),
-        _ => 0,
+        CONTACT_COLLIDER1 | CONTACT_COLLIDER2 => collider_number(owner, i),
+        CONTACT_BODY1..CONTACT_BODY2 => named_word(owner, CONTACT_BODY1, i),
+        CONTACT_BODY2..CONTACT_PAIR_INDEX => named_word(owner, CONTACT_BODY2, i),
+        CONTACT_PAIR_INDEX => draw(owner, i) % MOST_CONTACTS as u32,
+        CONTACT_EDGE_FLAGS..CONTACT_COUNT_CHANGE => flag_word(owner, i),
+        CONTACT_COUNT_CHANGE => count_change(draw(owner, i)),
+        CONTACT_SPECULATIVE_DISTANCE => SPECULATIVE[(draw(owner, i) % 16) as usize],
+        CONTACT_CACHE => 1 - one_in(owner, i, 10),
+        CONTACT_CACHED..CONTACT_MANIFOLDS => 0,
+        CONTACT_MANIFOLDS => draw(owner, i) % (MANIFOLDS as u32 + 1),
+        CONTACT_FIRST_MANIFOLD.. => {
+            let k = i - CONTACT_FIRST_MANIFOLD;
+            let manifold = draw(owner, 100 + k / MANIFOLD_SIZE);
+            manifold_word(case, manifold, k % MANIFOLD_SIZE)
+        }
     }
 }
 
@@ -99,8 +109,8 @@ struct Pose {
 
 /// That of collider n's own body; an absent one is at the origin.
 fn pose(rows: &Rows, n: usize) -> Pose {
-    let named = rows.colliders[23 * n + 1] == 1;
-    match words::body(&rows.bodies[26 * n..]) {
+    let named = rows.colliders[COLLIDER_SIZE * n + COLLIDER_BODY] == 1;
+    match words::body(&rows.bodies[BODY_SIZE * n..]) {
         Some(body) if named => Pose {
             position: body.position,
             rotation: body.rotation,
@@ -109,7 +119,7 @@ fn pose(rows: &Rows, n: usize) -> Pose {
     }
 }
 
-fn cache_of(a: Pose, b: Pose) -> [u32; 15] {
+fn cache_of(a: Pose, b: Pose) -> [u32; CACHE_SIZE] {
     let back = a.rotation.inverse();
     let t = back * (b.position - a.position);
     let r = back * b.rotation;
@@ -131,35 +141,35 @@ const TURNS: [u32; 8] = [
 ];
 
 /// One in four parts of the translation is moved, and one in six of the rotation.
-fn nudge(owner: u32, j: u32) -> u32 {
+fn nudge(owner: u32, j: usize) -> u32 {
     let d = draw(owner, 80 + j);
-    if j < 11 && d % 4 == 0 {
+    if j < CACHE_RELATIVE_ROTATION && d % 4 == 0 {
         NUDGES[(d / 4 % 8) as usize]
-    } else if j >= 11 && d % 6 == 0 {
+    } else if j >= CACHE_RELATIVE_ROTATION && d % 6 == 0 {
         TURNS[(d / 6 % 8) as usize]
     } else {
         0
     }
 }
 
-fn moved(owner: u32, j: u32, w: u32) -> u32 {
+fn moved(owner: u32, j: usize, w: u32) -> u32 {
     bits(f32::from_bits(w) + f32::from_bits(nudge(owner, j)))
 }
 
 /// One in sixteen of the bodies' rotations is another.
-fn turned(owner: u32, j: u32, w: u32) -> u32 {
-    if draw(owner, 80 + j / 4) % 16 == 0 {
-        rotation(owner, 82 + j / 4, j % 4)
+fn turned(owner: u32, j: usize, w: u32) -> u32 {
+    if draw(owner, 80 + j / CACHE_ROTATION2) % 16 == 0 {
+        rotation(owner, 82 + j / CACHE_ROTATION2, j % CACHE_ROTATION2)
     } else {
         w
     }
 }
 
-fn cache_word(case: u32, j: u32, w: u32) -> u32 {
+fn cache_word(case: u32, j: usize, w: u32) -> u32 {
     let owner = draw(case, 40);
     if draw(owner, 79) % 16 == 0 {
         float(owner, 80 + j, 2)
-    } else if j < 8 {
+    } else if j < CACHE_RELATIVE_TRANSLATION {
         turned(owner, j, w)
     } else {
         moved(owner, j, w)
@@ -168,25 +178,21 @@ fn cache_word(case: u32, j: u32, w: u32) -> u32 {
 
 fn rows(key: u32) -> Rows {
     let mut rows = Rows::new(1);
-    rows.settings = (0..10).map(|i| setting_word(key, i)).collect();
+    rows.draw_settings(key);
     for n in 0..2 {
-        for i in 0..23 {
-            rows.colliders[23 * n + i] = collider_word(key, n as u32, i as u32);
-        }
-        for i in 0..26 {
-            rows.bodies[26 * n + i] = body_word(key, n as u32, i as u32);
-        }
+        rows.draw_collider(key, n);
+        rows.draw_body(key, n);
     }
-    rows.proposals = (0..2330).map(|i| proposal_word(key, i)).collect();
+    rows.draw_proposal(key, 0);
     rows
 }
 
 fn record(key: u32, rows: &Rows) -> Vec<u32> {
-    let mut record: Vec<u32> = (0..523).map(|i| record_word(key, i)).collect();
+    let mut record: Vec<u32> = (0..CONTACT_SIZE).map(|i| record_word(key, i)).collect();
     let first = swapped(draw(key, 40)) as usize;
     let cache = cache_of(pose(rows, first), pose(rows, 1 - first));
-    for j in 0..15 {
-        record[21 + j] = cache_word(key, j as u32, cache[j]);
+    for (j, w) in cache.into_iter().enumerate() {
+        record[CONTACT_CACHED + j] = cache_word(key, j, w);
     }
     record
 }
@@ -245,7 +251,7 @@ fn main() {
     counts.none_but(&BRANCHES);
     counts.at_least(5, BRANCHES);
     counts.at_least(5, Branches::of_update().filter(|b| !SELDOM.contains(b)));
-    let full: u32 = (1..7)
+    let full: u32 = (1..=MANIFOLDS)
         .map(|n| counts.of(&format!("manifolds kept: {n}")))
         .sum();
     let recycled = counts.of("way: recycled, two bodies");

@@ -1,7 +1,9 @@
 //! Additions and steps on words, with the specification's refusals 3 to 7.
 
+use super::draws::{body_word, collider_word, proposal_word, setting_word};
 use super::hash::graph_hash;
 use super::reached::{reach, uncounted};
+use crate::layout::*;
 use crate::*;
 
 /// An addition: 3, 4 and 5.
@@ -30,6 +32,13 @@ pub fn add(graph: &mut ContactGraph, capacity: usize, a: &Addition) -> Result<Co
     Ok(add_pair(graph, a).unwrap())
 }
 
+/// Record n of a row, all records being of one size, word by word.
+fn fill(row: &mut [u32], size: usize, n: usize, word: impl Fn(usize) -> u32) {
+    for (i, w) in row[size * n..][..size].iter_mut().enumerate() {
+        *w = word(i);
+    }
+}
+
 /// What a step is lent beside the graph. Rows stay from one step to the next, but for what is drawn anew.
 pub struct Rows {
     pub settings: Vec<u32>,
@@ -42,17 +51,37 @@ pub struct Rows {
 impl Rows {
     pub fn new(capacity: usize) -> Self {
         Self {
-            settings: vec![0; 10],
-            colliders: vec![0; 256 * 23],
-            bodies: vec![0; 128 * 26],
-            proposals: vec![0; 2330 * capacity],
-            shares: vec![0; 9 + capacity],
+            settings: vec![0; SETTINGS_LENGTH],
+            colliders: vec![0; COLLIDERS * COLLIDER_SIZE],
+            bodies: vec![0; BODIES * BODY_SIZE],
+            proposals: vec![0; capacity * PROPOSAL_SIZE],
+            shares: vec![0; SHARES_ENTRIES + capacity],
         }
+    }
+
+    pub fn draw_settings(&mut self, key: u32) {
+        let word = |i| setting_word(key, i);
+        fill(&mut self.settings, SETTINGS_LENGTH, 0, word);
+    }
+
+    pub fn draw_collider(&mut self, key: u32, n: usize) {
+        let word = |i| collider_word(key, n, i);
+        fill(&mut self.colliders, COLLIDER_SIZE, n, word);
+    }
+
+    pub fn draw_body(&mut self, key: u32, n: usize) {
+        let word = |i| body_word(key, n, i);
+        fill(&mut self.bodies, BODY_SIZE, n, word);
+    }
+
+    pub fn draw_proposal(&mut self, key: u32, id: usize) {
+        let word = |i| proposal_word(key, i);
+        fill(&mut self.proposals, PROPOSAL_SIZE, id, word);
     }
 
     /// What a step on that graph is given, and the step time.
     pub fn typed(&self, graph: ContactGraph) -> (NarrowPhase, Hooks, Shapes, f32) {
-        reach(match f32::from_bits(self.settings[1]) {
+        reach(match f32::from_bits(self.settings[SETTINGS_LENGTH_UNIT]) {
             x if x > 0.0 => "length unit positive",
             x if x < 0.0 => "length unit negative",
             0.0 => "length unit 0",
@@ -64,7 +93,7 @@ impl Rows {
             bodies: &self.bodies,
             proposals: &self.proposals,
         };
-        words::step(rows, graph, self.shares.len() - 9)
+        words::step(rows, graph, self.shares.len() - SHARES_ENTRIES)
     }
 }
 
@@ -88,19 +117,22 @@ impl Stepped {
     }
 }
 
-/// Over 6 manifolds, or over 32 points in a manifold that is counted.
+/// Too many manifolds, or too many points in a manifold that is counted.
 fn overfull(proposal: &[u32]) -> bool {
-    let count = proposal[1];
-    let points = |m: u32| proposal[2 + 388 * m as usize];
-    if count > 6 {
+    let count = proposal[PROPOSAL_COUNT] as usize;
+    let too_many_points = |m: usize| {
+        let manifold = &proposal[proposed_manifold(m)..];
+        manifold[PROPOSED_MANIFOLD_COUNT] as usize > PROPOSED_POINTS
+    };
+    if count > MANIFOLDS {
         reach("overfull: manifolds");
         return true;
     }
-    if (0..count).any(|m| points(m) > 32) {
+    if (0..count).any(too_many_points) {
         reach("overfull: points");
         return true;
     }
-    if (count..6).any(|m| points(m) > 32) {
+    if (count..MANIFOLDS).any(too_many_points) {
         reach("too many points past the count");
     }
     false
@@ -108,19 +140,18 @@ fn overfull(proposal: &[u32]) -> bool {
 
 /// The ids of each worker, or why they are refused.
 fn shares_of(row: &[u32], graph: &ContactGraph) -> Result<Vec<Vec<u32>>, &'static str> {
-    let capacity = row.len() as u64 - 9;
-    let workers = row[0] as usize;
+    let mut rest = &row[SHARES_ENTRIES..];
+    let workers = row[SHARES_WORKERS] as usize;
     if workers == 0 {
         return Err("no worker");
     }
-    if workers > 8 {
-        return Err("over 8 workers");
+    if workers > MOST_WORKERS {
+        return Err("too many workers");
     }
-    let counts = &row[1..1 + workers];
-    if counts.iter().map(|n| *n as u64).sum::<u64>() > capacity {
+    let counts = &row[SHARES_COUNTS..][..workers];
+    if counts.iter().map(|n| *n as u64).sum::<u64>() > rest.len() as u64 {
         return Err("more listed than the capacity");
     }
-    let mut rest = &row[9..];
     let mut shares = vec![];
     for n in counts {
         let (own, others) = rest.split_at(*n as usize);
@@ -147,7 +178,7 @@ fn shares_of(row: &[u32], graph: &ContactGraph) -> Result<Vec<Vec<u32>>, &'stati
 pub fn step(graph: &mut ContactGraph, capacity: usize, rows: &Rows) -> Result<Stepped, u32> {
     let ids: Vec<u32> = graph.active_pairs.iter().map(|p| p.contact_id.0).collect();
     let shares = shares_of(&rows.shares, graph);
-    let proposal = |id: &u32| &rows.proposals[2330 * *id as usize..][..2330];
+    let proposal = |id: &u32| &rows.proposals[PROPOSAL_SIZE * *id as usize..][..PROPOSAL_SIZE];
     if ids.iter().any(|id| overfull(proposal(id))) {
         reach(match shares {
             Ok(_) => "refused 6",
@@ -155,7 +186,8 @@ pub fn step(graph: &mut ContactGraph, capacity: usize, rows: &Rows) -> Result<St
         });
         return Err(6);
     }
-    if (0..capacity as u32).any(|id| !ids.contains(&id) && proposal(&id)[1] > 6) {
+    let too_many = |id: &u32| proposal(id)[PROPOSAL_COUNT] as usize > MANIFOLDS;
+    if (0..capacity as u32).any(|id| !ids.contains(&id) && too_many(&id)) {
         reach("too many manifolds of an id not active");
     }
     let shares = shares.map_err(|why| {

@@ -1,6 +1,8 @@
 //! 32 bit FNV-1a over what a call leaves, each word's four bytes from the lowest.
 
 use super::calls::Stepped;
+use crate::layout::*;
+use crate::words::{EDGE_MARKS, PAIR_MARKS};
 use crate::*;
 
 pub struct Hash(pub u32);
@@ -78,11 +80,11 @@ impl Hash {
             }
         }
         self.word(edge.pair_index as u32);
-        for flag in [ContactEdgeFlags::TOUCHING, ContactEdgeFlags::CONTACT_EVENTS] {
-            self.word(edge.flags.contains(flag) as u32);
+        for (_, flag) in EDGE_MARKS {
+            self.word(edge.flags.contains(*flag) as u32);
         }
-        for k in 0..9 {
-            self.word(pair.flags.contains(ContactPairFlags(1 << k)) as u32);
+        for (_, flag) in PAIR_MARKS {
+            self.word(pair.flags.contains(*flag) as u32);
         }
         self.word(pair.manifold_count_change as u32);
         self.float(pair.speculative_distance);
@@ -117,8 +119,8 @@ pub fn graph_hash(graph: &ContactGraph, capacity: usize) -> u32 {
 }
 
 impl CollisionEvent {
-    /// Kind, id, colliders, bodies (a mark and a number each).
-    fn words(&self) -> [u32; 8] {
+    /// Bodies are a mark and a number each.
+    fn words(&self) -> [u32; EVENT_SIZE] {
         let (kind, id, colliders, bodies) = match *self {
             CollisionEvent::CollisionStart {
                 contact_id,
@@ -126,47 +128,65 @@ impl CollisionEvent {
                 collider2,
                 body1,
                 body2,
-            } => (0, contact_id, [collider1, collider2], [body1, body2]),
+            } => (
+                EVENT_STARTED,
+                contact_id,
+                [collider1, collider2],
+                [body1, body2],
+            ),
             CollisionEvent::CollisionEnd {
                 contact_id,
                 collider1,
                 collider2,
                 body1,
                 body2,
-            } => (1, contact_id, [collider1, collider2], [body1, body2]),
+            } => (
+                EVENT_ENDED,
+                contact_id,
+                [collider1, collider2],
+                [body1, body2],
+            ),
         };
-        let [[mark1, number1], [mark2, number2]] =
-            bodies.map(|body| [body.is_some() as u32, body.map_or(0, |n| n.0)]);
-        [
-            kind,
-            id.0,
-            colliders[0].0,
-            colliders[1].0,
-            mark1,
-            number1,
-            mark2,
-            number2,
-        ]
+        let mut words = [0; EVENT_SIZE];
+        words[EVENT_KIND] = kind;
+        words[EVENT_CONTACT] = id.0;
+        words[EVENT_COLLIDER1] = colliders[0].0;
+        words[EVENT_COLLIDER2] = colliders[1].0;
+        for (place, body) in [EVENT_BODY1, EVENT_BODY2].into_iter().zip(bodies) {
+            words[place] = body.is_some() as u32;
+            words[place + 1] = body.map_or(0, |n| n.0);
+        }
+        words
     }
 }
 
 impl ContactStatusChange {
-    /// Kind, id, bodies, the change of the count.
-    fn words(&self) -> [u32; 5] {
-        match *self {
-            ContactStatusChange::StartedGeneratingConstraints(id) => [0, id.0, 0, 0, 0],
+    /// A start has neither bodies nor a change of the count, a stop no change.
+    fn words(&self) -> [u32; CHANGE_SIZE] {
+        let none = Entity(0);
+        let (kind, id, bodies, delta) = match *self {
+            ContactStatusChange::StartedGeneratingConstraints(id) => {
+                (CHANGE_START, id, [none; 2], 0)
+            }
             ContactStatusChange::StoppedGeneratingConstraints {
                 contact_id,
                 body1,
                 body2,
-            } => [1, contact_id.0, body1.0, body2.0, 0],
+            } => (CHANGE_STOP, contact_id, [body1, body2], 0),
             ContactStatusChange::ManifoldCountChanged {
                 contact,
                 body1,
                 body2,
                 delta,
-            } => [2, contact.0, body1.0, body2.0, delta as u32],
-        }
+            } => (CHANGE_COUNT, contact, [body1, body2], delta),
+        };
+        let mut words = [0; CHANGE_SIZE];
+        words[CHANGE_KIND] = kind;
+        words[CHANGE_CONTACT] = id.0;
+        words[CHANGE_BODY1] = bodies[0].0;
+        words[CHANGE_BODY2] = bodies[1].0;
+        words[CHANGE_DELTA] = delta as u32;
+        words
     }
 }
 

@@ -1,5 +1,6 @@
-//! The draws that crates/case_draws has too: every choice is one, by the key of what is made and the choice's number. Settings,
-//! colliders, bodies and a proposal are drawn by one key, called the case; collider n and body n for n below 10.
+//! The draws that crates/case_draws has too: every choice is one, by the key of what is made and the choice's number, which is a
+//! word's place for most words of a record. Settings, colliders, bodies and a proposal are drawn by one key, called the case;
+//! collider n and body n for n below 10.
 
 mod points;
 mod world;
@@ -7,19 +8,19 @@ mod world;
 pub use points::*;
 pub use world::*;
 
-pub fn seeded(seed: u32, key: u32, slot: u32) -> u32 {
+pub fn seeded(seed: u32, key: u32, slot: usize) -> u32 {
     let a = (key as u64 + slot as u64 * 2654435769 + seed as u64) % 4294967296;
     let b = (a + a / 65536) * 2246822519 % 4294967296;
     let c = (b + b / 32768) * 3266489917 % 4294967296;
     ((c + c / 65536) % 4294967296) as u32
 }
 
-pub fn draw(key: u32, slot: u32) -> u32 {
+pub fn draw(key: u32, slot: usize) -> u32 {
     seeded(20262, key, slot)
 }
 
 /// 1 where the draw is a multiple of n.
-pub fn one_in(key: u32, slot: u32, n: u32) -> u32 {
+pub fn one_in(key: u32, slot: usize, n: u32) -> u32 {
     (draw(key, slot) % n == 0) as u32
 }
 
@@ -48,7 +49,7 @@ pub fn style(case: u32) -> u32 {
     }
 }
 
-pub fn float(owner: u32, slot: u32, style: u32) -> u32 {
+pub fn float(owner: u32, slot: usize, style: u32) -> u32 {
     let d = draw(owner, slot);
     match style {
         0 => COARSE[(d % 7) as usize],

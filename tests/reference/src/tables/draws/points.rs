@@ -1,6 +1,7 @@
 //! Points and manifolds, proposed and stored, and speculative distances.
 
 use super::{draw, float, one_in, style};
+use crate::layout::*;
 
 /// 0, 0.1, 0.05, the floats beside 0.1, -0.1, 0.5.
 pub const OFFSETS: [u32; 8] = [
@@ -19,17 +20,17 @@ const NORMALS: [u32; 24] = [
     0, 0x3f800000, 0, 0, 0x3f13cd3a, 0x3f13cd3a, 0x3f13cd3a, 0, 0, 0,
 ];
 
-pub fn normal(owner: u32, j: u32, style: u32) -> u32 {
+pub fn normal(owner: u32, j: usize, style: u32) -> u32 {
     let d = draw(owner, 70) % 8;
     if d == 7 {
         float(owner, 71 + j, style)
     } else {
-        NORMALS[(d * 3 + j) as usize]
+        NORMALS[d as usize * 3 + j]
     }
 }
 
 /// In coarse cases a grid with small offsets.
-pub fn anchor(owner: u32, j: u32, style: u32) -> u32 {
+pub fn anchor(owner: u32, j: usize, style: u32) -> u32 {
     let d = draw(owner, j);
     match (style, j % 3) {
         (0, 0) => OFFSETS[(d % 2 * 7) as usize],
@@ -39,7 +40,7 @@ pub fn anchor(owner: u32, j: u32, style: u32) -> u32 {
     }
 }
 
-pub fn penetration(owner: u32, slot: u32, style: u32) -> u32 {
+pub fn penetration(owner: u32, slot: usize, style: u32) -> u32 {
     let d = draw(owner, slot);
     if d % 2 == 0 {
         PENETRATIONS[(d / 2 % 16) as usize]
@@ -49,7 +50,7 @@ pub fn penetration(owner: u32, slot: u32, style: u32) -> u32 {
 }
 
 /// Few features, unknown ones among them; many; many and unknown ones; few known ones.
-pub fn feature(case: u32, owner: u32, slot: u32) -> u32 {
+pub fn feature(case: u32, owner: u32, slot: usize) -> u32 {
     let d = draw(owner, slot);
     match draw(case, 3) % 4 {
         0 => d % 5 / 2 * 0x40000001,
@@ -60,46 +61,70 @@ pub fn feature(case: u32, owner: u32, slot: u32) -> u32 {
     }
 }
 
-fn proposed_point_word(case: u32, owner: u32, j: u32) -> u32 {
+fn proposed_point_word(case: u32, owner: u32, j: usize) -> u32 {
     match j {
-        0..=5 => anchor(owner, j, style(case)),
-        6..=8 => float(owner, j, style(case)),
-        9 => penetration(owner, j, style(case)),
-        _ => feature(case, owner, j),
+        PROPOSED_POINT_ANCHOR1..PROPOSED_POINT_POSITION => anchor(owner, j, style(case)),
+        PROPOSED_POINT_POSITION..PROPOSED_POINT_PENETRATION => float(owner, j, style(case)),
+        PROPOSED_POINT_PENETRATION => penetration(owner, j, style(case)),
+        PROPOSED_POINT_FEATURES.. => feature(case, owner, j),
     }
 }
 
-/// 5 to 32 points in one of four, and all 32 in one of sixteen, else 0 to 4.
+/// A number of points, d being a draw: up to as many as are stored.
+pub fn few_points(d: u32) -> u32 {
+    d % (STORED_POINTS as u32 + 1)
+}
+
+/// More than are stored, up to as many as are proposed.
+pub fn many_points(d: u32) -> u32 {
+    STORED_POINTS as u32 + 1 + d % (PROPOSED_POINTS - STORED_POINTS) as u32
+}
+
+/// Many in one of four, and the most in one of sixteen, else few.
 fn proposed_count(owner: u32) -> u32 {
-    let d = draw(owner, 0);
+    let d = draw(owner, PROPOSED_MANIFOLD_COUNT);
     match d % 16 {
-        0 => 32,
-        1..=4 => 5 + d / 16 % 28,
-        _ => d / 16 % 5,
+        0 => PROPOSED_POINTS as u32,
+        1..=4 => many_points(d / 16),
+        _ => few_points(d / 16),
     }
 }
 
-fn proposed_manifold_word(case: u32, owner: u32, r: u32) -> u32 {
+fn proposed_manifold_word(case: u32, owner: u32, r: usize) -> u32 {
     match r {
-        0 => proposed_count(owner),
-        1..=3 => normal(owner, r - 1, style(case)),
-        _ => proposed_point_word(case, draw(owner, 100 + (r - 4) / 12), (r - 4) % 12),
+        PROPOSED_MANIFOLD_COUNT => proposed_count(owner),
+        PROPOSED_MANIFOLD_NORMAL..PROPOSED_MANIFOLD_POINTS => {
+            normal(owner, r - PROPOSED_MANIFOLD_NORMAL, style(case))
+        }
+        PROPOSED_MANIFOLD_POINTS.. => {
+            let k = r - PROPOSED_MANIFOLD_POINTS;
+            let point = draw(owner, 100 + k / PROPOSED_POINT_SIZE);
+            proposed_point_word(case, point, k % PROPOSED_POINT_SIZE)
+        }
     }
 }
 
-/// 0 to 6, seldom 0.
+/// Up to the most, seldom 0.
 fn manifold_count(owner: u32) -> u32 {
-    let d = draw(owner, 1);
-    if d % 12 == 0 { 0 } else { 1 + d / 12 % 6 }
+    let d = draw(owner, PROPOSAL_COUNT);
+    if d % 12 == 0 {
+        0
+    } else {
+        1 + d / 12 % MANIFOLDS as u32
+    }
 }
 
 /// Places past a count are filled too.
-pub fn proposal_word(case: u32, i: u32) -> u32 {
+pub fn proposal_word(case: u32, i: usize) -> u32 {
     let owner = draw(case, 50);
     match i {
-        0 => one_in(owner, 0, 2),
-        1 => manifold_count(owner),
-        _ => proposed_manifold_word(case, draw(owner, 100 + (i - 2) / 388), (i - 2) % 388),
+        PROPOSAL_HOOK => one_in(owner, i, 2),
+        PROPOSAL_COUNT => manifold_count(owner),
+        PROPOSAL_MANIFOLDS.. => {
+            let k = i - PROPOSAL_MANIFOLDS;
+            let manifold = draw(owner, 100 + k / PROPOSED_MANIFOLD_SIZE);
+            proposed_manifold_word(case, manifold, k % PROPOSED_MANIFOLD_SIZE)
+        }
     }
 }
 

@@ -1,6 +1,7 @@
 //! Settings, colliders and bodies, word by word.
 
 use super::{draw, float, one_in, style};
+use crate::layout::*;
 
 // ---- Settings.
 
@@ -40,38 +41,39 @@ const COEFFICIENTS: [u32; 16] = [
     0x3f000000, 0x3f000001, 0x00000000, 0x80000000, 0xbf000000, 0x000116c2, 0x7f800000, 0x7fc00000,
 ];
 
-fn coefficient(owner: u32, slot: u32) -> u32 {
+fn coefficient(owner: u32, slot: usize) -> u32 {
     COEFFICIENTS[(draw(owner, slot) % 16) as usize]
 }
 
-fn rule(owner: u32, slot: u32) -> u32 {
-    1 + draw(owner, slot) % 5
+fn rule(owner: u32, slot: usize) -> u32 {
+    1 + draw(owner, slot) % RULES as u32
 }
 
-pub fn setting_word(case: u32, i: u32) -> u32 {
+pub fn setting_word(case: u32, i: usize) -> u32 {
     let owner = draw(case, 30);
     let k = (draw(owner, i) % 16) as usize;
     match i {
-        0 => TIMES[k],
-        1 => UNITS[k],
-        2 => TOLERANCES[k],
-        3 => DISTANCES[k],
-        4 => COSINES[k],
-        5 => 1 - one_in(owner, i, 4),
-        6 | 8 => COEFFICIENTS[k],
-        _ => rule(owner, i),
+        SETTINGS_STEP_TIME => TIMES[k],
+        SETTINGS_LENGTH_UNIT => UNITS[k],
+        SETTINGS_CONTACT_TOLERANCE => TOLERANCES[k],
+        SETTINGS_RECYCLE_DISTANCE => DISTANCES[k],
+        SETTINGS_RECYCLE_COSINE => COSINES[k],
+        SETTINGS_MATCH_CONTACTS => 1 - one_in(owner, i, 4),
+        SETTINGS_FRICTION | SETTINGS_RESTITUTION => coefficient(owner, i),
+        SETTINGS_FRICTION_RULE | SETTINGS_RESTITUTION_RULE => rule(owner, i),
+        SETTINGS_LENGTH.. => unreachable!(),
     }
 }
 
 // ---- What colliders and bodies share.
 
-/// Mark, coefficient, rule: a rule behind a mark of 0 is any word.
-fn coefficient_word(owner: u32, slot: u32, j: u32) -> u32 {
-    match j {
-        0 => one_in(owner, slot, 2),
-        1 => coefficient(owner, slot + 1),
-        _ if one_in(owner, slot, 2) == 0 => draw(owner, slot + 2),
-        _ => rule(owner, slot + 2),
+/// The word at place i of a mark, a coefficient, a rule: a rule behind a mark of 0 is any word.
+fn coefficient_word(owner: u32, mark: usize, i: usize) -> u32 {
+    match i - mark {
+        0 => one_in(owner, mark, 2),
+        1 => coefficient(owner, i),
+        _ if one_in(owner, mark, 2) == 0 => draw(owner, i),
+        _ => rule(owner, i),
     }
 }
 
@@ -81,10 +83,10 @@ const MARGINS: [u32; 16] = [
     0x3b83126f, 0x3f000000, 0x3f000000, 0x00000000, 0xbd4ccccd, 0xbd4ccccd, 0x7f800000, 0x7fc00000,
 ];
 
-fn margin_word(owner: u32, slot: u32, j: u32) -> u32 {
-    match j {
-        0 => one_in(owner, slot, 3),
-        _ => MARGINS[(draw(owner, slot + 1) % 16) as usize],
+fn margin_word(owner: u32, mark: usize, i: usize) -> u32 {
+    match i - mark {
+        0 => one_in(owner, mark, 3),
+        _ => MARGINS[(draw(owner, i) % 16) as usize],
     }
 }
 
@@ -103,8 +105,8 @@ const ROTATIONS: [u32; 32] = [
     0x00000000, 0x3f800000, 0x00000000, 0x00000000, 0x3dcccccd, 0x3e4ccccd, 0xbe99999a, 0x3f666666,
 ];
 
-pub fn rotation(owner: u32, slot: u32, j: u32) -> u32 {
-    ROTATIONS[(draw(owner, slot) / 8 % 8 * 4 + j) as usize]
+pub fn rotation(owner: u32, slot: usize, j: usize) -> u32 {
+    ROTATIONS[(draw(owner, slot) / 8 % 8 * 4) as usize + j]
 }
 
 /// 0.1, 0.013, 1, 10, 0.01, 0.017, 0, f32's largest, infinite, NaN, -1.
@@ -119,28 +121,42 @@ const RADII: [u32; 16] = [
     0x40000000, 0x3dcccccd, 0x3dcccccd, 0x3dcccccd, 0x00000000, 0x7f800000, 0x7fc00000, 0xbf800000,
 ];
 
+fn rotation_word(owner: u32, i: usize, style: u32) -> u32 {
+    if style == 2 && draw(owner, BODY_ROTATION) % 8 == 0 {
+        float(owner, 40 + i, 2)
+    } else {
+        rotation(owner, BODY_ROTATION, i - BODY_ROTATION)
+    }
+}
+
 /// Position, rotation, centre of mass (half of them 0), velocities.
-fn motion_word(owner: u32, i: u32, style: u32) -> u32 {
+fn motion_word(owner: u32, i: usize, style: u32) -> u32 {
     match i {
-        5..=8 if style == 2 && draw(owner, 5) % 8 == 0 => float(owner, 40 + i, 2),
-        5..=8 => rotation(owner, 5, i - 5),
-        9..=11 if draw(owner, 60) % 2 == 0 => 0,
+        BODY_ROTATION..BODY_CENTER_OF_MASS => rotation_word(owner, i, style),
+        BODY_CENTER_OF_MASS..BODY_LINEAR_VELOCITY if draw(owner, 60) % 2 == 0 => 0,
         _ => float(owner, i, style),
     }
 }
 
-pub fn body_word(case: u32, n: u32, i: u32) -> u32 {
+fn maximum_word(owner: u32, i: usize) -> u32 {
+    match i {
+        BODY_SPECULATIVE_MAXIMUM => one_in(owner, i, 2),
+        _ => MAXIMA[(draw(owner, i) % 16) as usize],
+    }
+}
+
+pub fn body_word(case: u32, n: usize, i: usize) -> u32 {
     let owner = draw(case, 20 + n);
     match i {
-        0 if lone(case) => 0,
-        0 => 1 - one_in(owner, 0, 16),
-        1 => one_in(owner, 1, 4),
-        2..=17 => motion_word(owner, i, style(case)),
-        18..=20 => coefficient_word(owner, 18, i - 18),
-        21 | 22 => margin_word(owner, 21, i - 21),
-        23 => one_in(owner, 23, 2),
-        24 => MAXIMA[(draw(owner, 24) % 16) as usize],
-        _ => RADII[(draw(owner, 25) % 16) as usize],
+        PRESENCE if lone(case) => 0,
+        PRESENCE => 1 - one_in(owner, i, 16),
+        BODY_STATIC => one_in(owner, i, 4),
+        BODY_POSITION..BODY_FRICTION => motion_word(owner, i, style(case)),
+        BODY_FRICTION..BODY_MARGIN => coefficient_word(owner, BODY_FRICTION, i),
+        BODY_MARGIN..BODY_SPECULATIVE_MAXIMUM => margin_word(owner, BODY_MARGIN, i),
+        BODY_SPECULATIVE_MAXIMUM..BODY_SWEEP_RADIUS => maximum_word(owner, i),
+        BODY_SWEEP_RADIUS => RADII[(draw(owner, i) % 16) as usize],
+        BODY_SIZE.. => unreachable!(),
     }
 }
 
@@ -156,8 +172,8 @@ const UPPER: [u32; 8] = [
 ];
 
 /// From -1 to 1 on most axes.
-fn box_word(owner: u32, axis: u32, upper: bool) -> u32 {
-    let d = draw(owner, 3 + axis) % 160;
+fn box_word(owner: u32, axis: usize, upper: bool) -> u32 {
+    let d = draw(owner, COLLIDER_LOWER + axis) % 160;
     match (d < 8, upper) {
         (false, false) => 0xbf800000,
         (false, true) => 0x3f800000,
@@ -173,50 +189,52 @@ const FILTERS: [u32; 8] = [
 ];
 
 /// At times none.
-fn layers_word(owner: u32, i: u32) -> u32 {
+fn layers_word(owner: u32, i: usize) -> u32 {
     let d = draw(owner, i);
     match (d % 64, i) {
         (0, _) => 0,
-        (_, 12) => MEMBERSHIPS[(d / 64 % 8) as usize],
+        (_, COLLIDER_MEMBERSHIPS) => MEMBERSHIPS[(d / 64 % 8) as usize],
         _ => FILTERS[(d / 64 % 8) as usize],
     }
 }
 
 /// Its own, at times the other's or one that is absent; behind a mark of 0 any word.
-fn body_number(owner: u32, n: u32) -> u32 {
-    let d = draw(owner, 2);
-    if one_in(owner, 1, 12) == 1 {
+fn body_number(owner: u32, n: usize) -> u32 {
+    let d = draw(owner, COLLIDER_BODY_NUMBER);
+    if one_in(owner, COLLIDER_BODY, 12) == 1 {
         return d;
     }
-    match d % 24 {
-        0 => 127,
-        1 => 1u32.saturating_sub(n),
+    let number = match d % 24 {
+        0 => BODIES - 1,
+        1 => 1usize.saturating_sub(n),
         _ => n,
-    }
+    };
+    number as u32
 }
 
 /// Half of them stand where their bodies do.
-fn collider_position(case: u32, n: u32, owner: u32, i: u32) -> u32 {
+fn collider_position(case: u32, n: usize, owner: u32, i: usize) -> u32 {
     if draw(owner, 61) % 2 == 0 {
-        body_word(case, n, i - 7)
+        body_word(case, n, i - COLLIDER_POSITION + BODY_POSITION)
     } else {
         float(owner, i, style(case))
     }
 }
 
-pub fn collider_word(case: u32, n: u32, i: u32) -> u32 {
+pub fn collider_word(case: u32, n: usize, i: usize) -> u32 {
     let owner = draw(case, 10 + n);
     match i {
-        0 => 1 - one_in(owner, 0, 64),
-        1 => 1 - one_in(owner, 1, 12),
-        2 => body_number(owner, n),
-        3..=5 => box_word(owner, i - 3, false),
-        6..=8 => box_word(owner, i - 6, true),
-        9..=11 => collider_position(case, n, owner, i),
-        12 | 13 => layers_word(owner, i),
-        14..=16 => coefficient_word(owner, 14, i - 14),
-        17..=19 => coefficient_word(owner, 17, i - 17),
-        20 | 21 => margin_word(owner, 20, i - 20),
-        _ => one_in(owner, 22, 12),
+        PRESENCE => 1 - one_in(owner, i, 64),
+        COLLIDER_BODY => 1 - one_in(owner, i, 12),
+        COLLIDER_BODY_NUMBER => body_number(owner, n),
+        COLLIDER_LOWER..COLLIDER_UPPER => box_word(owner, i - COLLIDER_LOWER, false),
+        COLLIDER_UPPER..COLLIDER_POSITION => box_word(owner, i - COLLIDER_UPPER, true),
+        COLLIDER_POSITION..COLLIDER_MEMBERSHIPS => collider_position(case, n, owner, i),
+        COLLIDER_MEMBERSHIPS | COLLIDER_FILTERS => layers_word(owner, i),
+        COLLIDER_FRICTION..COLLIDER_RESTITUTION => coefficient_word(owner, COLLIDER_FRICTION, i),
+        COLLIDER_RESTITUTION..COLLIDER_MARGIN => coefficient_word(owner, COLLIDER_RESTITUTION, i),
+        COLLIDER_MARGIN..COLLIDER_SENSOR => margin_word(owner, COLLIDER_MARGIN, i),
+        COLLIDER_SENSOR => one_in(owner, i, 12),
+        COLLIDER_SIZE.. => unreachable!(),
     }
 }
