@@ -17,6 +17,7 @@ use contact_graph::look_up::LookUpAnswer;
 use contact_graph::look_up::look_up;
 use contact_graph::remove::RemoveAnswer;
 use contact_graph::remove::remove;
+use contact_types::contact_id::ContactId;
 use layout::request::REQUEST_BODY1;
 use layout::request::REQUEST_BODY1_NUMBER;
 use layout::request::REQUEST_BODY2;
@@ -131,7 +132,7 @@ pub extern "C" fn sardinerod_look_up(graph: &[u32], id: u32, answer: &mut [u32])
     if answer.len() != LOOK_UP_ANSWER_LENGTH {
         return 1;
     }
-    match look_up(graph, id) {
+    match look_up(graph, ContactId(id)) {
         LookUpAnswer::Found(edge) => {
             let words = edge_words(edge);
             store_words(answer, 0, &words);
@@ -154,5 +155,5 @@ fn remove_number(a: RemoveAnswer) -> u32
 pub extern "C" fn sardinerod_remove(graph: &mut [u32], id: u32) -> u32
     ensures { λ r. ⌜ RemoveCalled (now (graph .entry)) id (now (graph .exit)) r ⌝ }
 {
-    remove_number(remove(graph, id))
+    remove_number(remove(graph, ContactId(id)))
 }

@@ -83,7 +83,7 @@ removal-room {g} id c s =
         room : (i n : ℕ) → i < n → i * 523 + 523 ≤ n * 523
         room i n h = omega arith
 
-pub gap-closed : {g a b c : List ℕ} {id : ℕ} {gap : Gap} {n m k : ℕ} → GapOf g id gap → a ≡ put (put g (gap .«list_at») (gap .last ∷ [])) (gap .«index_at») (gap .place ∷ [])
+pub gap-closed : {g a b c : List ℕ} {id : ℕ} {gap : Gap} {n m k : ℕ} → GapOf g id gap → a ≡ put (put g (gap .«list_at») (gap .last .0 ∷ [])) (gap .«index_at») (gap .place ∷ [])
     → k ≡ 4 + capacityOf g + freeCount g → b ≡ put a k (id ∷ []) → n ≡ listedCount g - 1 → m ≡ freeCount g + 1 → c ≡ put b 2 (n ∷ m ∷ []) → c ≡ removedWords g id
 unfolding removedWords
 gap-closed {g} {id = id} f p q s t u w = w ∙ rw (t, u, s, q, p, f .list, f .last, f .index, f .place)

@@ -10,6 +10,6 @@ use Rattle.contact_graph.specs.declared.remove.Gap.{Gap}
 
 pub record GapOf (g : List ℕ) (id : ℕ) (r : Gap) : Type 0 where
   pub list : r .«list_at» ≡ graphList + placeOf g id
-  pub last : r .last ≡ listedAt g (listedCount g - 1)
+  pub last : r .last .0 ≡ listedAt g (listedCount g - 1)
   pub index : r .«index_at» ≡ contactAt g (listedAt g (listedCount g - 1)) + contactPairIndex
   pub place : r .place ≡ placeOf g id

@@ -21,6 +21,7 @@ use crate::call::ContactEdge;
 use crate::call::Request;
 use contact_range::places::contact_at;
 use contact_range::places::free_at;
+use contact_range::places::id_at;
 use contact_range::places::number_at;
 use contact_range::range::in_range;
 use contact_range::range::right_length;
@@ -109,7 +110,7 @@ fn pair_stands(graph: &[u32], a: u32, b: u32) -> bool
     let listed = number_at(graph, GRAPH_LISTED);
     let mut p = 0;
     while p < listed {
-        let id = number_at(graph, GRAPH_LIST + p);
+        let id = id_at(graph, GRAPH_LIST + p);
         let at = contact_at(graph, id);
         if same_colliders(
             a,
@@ -125,15 +126,15 @@ fn pair_stands(graph: &[u32], a: u32, b: u32) -> bool
 }
 
 // The id freed last, else the lowest never given.
-fn new_id(graph: &[u32]) -> u32
+fn new_id(graph: &[u32]) -> ContactId
     requires { ⌜ Checked (now graph) ⌝ }
-    ensures { λ r. ⌜ r ≡ newIdOf (now (graph .entry)) ⌝ }
+    ensures { λ r. ⌜ r .0 ≡ newIdOf (now (graph .entry)) ⌝ }
 {
     let freed = number_at(graph, GRAPH_FREED);
     if freed == 0 {
-        return load_word(graph, GRAPH_GIVEN);
+        return id_at(graph, GRAPH_GIVEN);
     }
-    free_at(graph, freed - 1) as u32
+    free_at(graph, freed - 1)
 }
 
 // The word behind a mark: 0 where there is nothing.
@@ -216,16 +217,15 @@ fn add_new(graph: &mut [u32], a: Request) -> ContactId
     ensures { λ r. ⌜ AddedNew (now (graph .entry)) a (now (graph .exit)) r ⌝ }
 {
     let mut edge = ContactEdge::new(a.collider1, a.collider2);
-    let id = new_id(graph);
+    let new = new_id(graph);
     let given = load_word(graph, GRAPH_GIVEN);
     let listed = load_word(graph, GRAPH_LISTED);
     let freed = load_word(graph, GRAPH_FREED);
-    let at = contact_at(graph, id as usize);
-    let new = ContactId(id);
+    let at = contact_at(graph, new);
     edge.id = new;
     edge.pair_index = listed;
     store_new(graph, at, a, edge.pair_index);
-    store_word(graph, GRAPH_LIST + listed as usize, id);
+    store_word(graph, GRAPH_LIST + listed as usize, new.0);
     let now_given = next_given(given, freed);
     let now_freed = next_freed(freed);
     store_three(graph, now_given, listed + 1, now_freed);

@@ -57,14 +57,14 @@ impl ContactEdge {
     }
 }
 
-// Whether a number is the id of a standing contact.
-pub fn has_contact(graph: &[u32], id: u32) -> bool
+// Whether an id is a standing contact's.
+pub fn has_contact(graph: &[u32], id: ContactId) -> bool
     requires { ⌜ Checked (now graph) ⌝ }
-    ensures { λ r. ⌜ r ≡ stands (now (graph .entry)) id ⌝ }
+    ensures { λ r. ⌜ r ≡ stands (now (graph .entry)) (id .0) ⌝ }
 {
     let given = number_at(graph, GRAPH_GIVEN);
-    if given <= id as usize {
+    if given <= id.0 as usize {
         return false;
     }
-    is_standing(graph, id as usize)
+    is_standing(graph, id)
 }

@@ -50,12 +50,12 @@ fn load_mark(graph: &[u32], at: usize) -> bool
 }
 
 // The edge of a contact whose record begins at that place.
-fn load_edge(graph: &[u32], at: usize, id: u32) -> ContactEdge
+fn load_edge(graph: &[u32], at: usize, id: ContactId) -> ContactEdge
     requires { ⌜ at + contactSize ≤ length (now graph) ⌝ }
-    ensures { λ r. ⌜ EdgeLoaded (now (graph .entry)) at id r ⌝ }
+    ensures { λ r. ⌜ EdgeLoaded (now (graph .entry)) at (id .0) r ⌝ }
 {
     ContactEdge {
-        id: ContactId(id),
+        id,
         collider1: load_word(graph, at),
         collider2: load_word(graph, at + CONTACT_COLLIDER2),
         body1: load_body(graph, at + CONTACT_BODY1),
@@ -66,8 +66,8 @@ fn load_edge(graph: &[u32], at: usize, id: u32) -> ContactEdge
     }
 }
 
-pub fn look_up(graph: &[u32], id: u32) -> LookUpAnswer
-    ensures { λ r. ⌜ LookedUp (now (graph .entry)) id r ⌝ }
+pub fn look_up(graph: &[u32], id: ContactId) -> LookUpAnswer
+    ensures { λ r. ⌜ LookedUp (now (graph .entry)) (id .0) r ⌝ }
 {
     if !right_length(graph) {
         return LookUpAnswer::Refused(Refusal::WrongLength);
@@ -78,6 +78,6 @@ pub fn look_up(graph: &[u32], id: u32) -> LookUpAnswer
     if !has_contact(graph, id) {
         return LookUpAnswer::Refused(Refusal::NoContact);
     }
-    let at = contact_at(graph, id as usize);
+    let at = contact_at(graph, id);
     LookUpAnswer::Found(load_edge(graph, at, id))
 }

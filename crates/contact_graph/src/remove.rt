@@ -5,6 +5,7 @@ ghost use mathlib.Core.List.{[], _∷_};
 ghost use Prim.Native.Nat.{_≤_, _<_};
 ghost use lib.ListN.{length};
 ghost use Rattle.rows.specs.Rows.{put};
+ghost use Rattle.layout.specs.Graph.{graphList, graphListed};
 ghost use Rattle.contact_graph.specs.Removing.{GapOf};
 ghost use Rattle.contact_graph.specs.Calls.{removedWords};
 ghost use Rattle.contact_range.specs.Checked.{Checked};
@@ -12,9 +13,11 @@ ghost use Rattle.contact_graph.specs.Promises.{Removed};
 ghost use Rattle.contact_range.specs.Range.{stands};
 use crate::call::has_contact;
 use contact_range::places::contact_at;
+use contact_range::places::id_at;
 use contact_range::places::number_at;
 use contact_range::range::in_range;
 use contact_range::range::right_length;
+use contact_types::contact_id::ContactId;
 use contact_types::refusal::Refusal;
 use layout::contact::CONTACT_PAIR_INDEX;
 use layout::graph::GRAPH_CAPACITY;
@@ -32,20 +35,20 @@ pub enum RemoveAnswer {
 // Where a removal stores, and what: the last listed contact's id at the gap, the gap's place in that contact's record.
 pub struct Gap {
     pub list_at: usize,
-    pub last: u32,
+    pub last: ContactId,
     pub index_at: usize,
     pub place: u32,
 }
 
-fn gap_of(graph: &[u32], id: u32) -> Gap
-    requires { ⌜ Checked (now graph) × (stands (now graph) id ≡ true) ⌝ }
-    ensures { λ r. ⌜ GapOf (now (graph .entry)) id r ⌝ }
+fn gap_of(graph: &[u32], id: ContactId) -> Gap
+    requires { ⌜ Checked (now graph) × (stands (now graph) (id .0) ≡ true) ⌝ }
+    ensures { λ r. ⌜ GapOf (now (graph .entry)) (id .0) r ⌝ }
 {
     let listed = number_at(graph, GRAPH_LISTED);
-    let at = contact_at(graph, id as usize);
+    let at = contact_at(graph, id);
     let place = load_word(graph, at + CONTACT_PAIR_INDEX);
-    let last = load_word(graph, GRAPH_LIST + (listed - 1));
-    let moved = contact_at(graph, last as usize);
+    let last = id_at(graph, GRAPH_LIST + (listed - 1));
+    let moved = contact_at(graph, last);
     Gap {
         list_at: GRAPH_LIST + place as usize,
         last,
@@ -56,8 +59,8 @@ fn gap_of(graph: &[u32], id: u32) -> Gap
 
 // The two counts, side by side.
 fn store_counts(graph: &mut [u32], listed: u32, freed: u32)
-    requires { ⌜ 4 ≤ length (now graph) ⌝ }
-    ensures { λ _. ⌜ now (graph .exit) ≡ put (now (graph .entry)) 2 (listed ∷ freed ∷ []) ⌝ }
+    requires { ⌜ graphList ≤ length (now graph) ⌝ }
+    ensures { λ _. ⌜ now (graph .exit) ≡ put (now (graph .entry)) graphListed (listed ∷ freed ∷ []) ⌝ }
 {
     store_word(graph, GRAPH_LISTED, listed);
     store_word(graph, GRAPH_FREED, freed);
@@ -65,30 +68,31 @@ fn store_counts(graph: &mut [u32], listed: u32, freed: u32)
 
 fn close_gap(graph: &mut [u32], gap: Gap)
     requires { ⌜ (gap .«list_at» < length (now graph)) × (gap .«index_at» < length (now graph)) ⌝ }
-    ensures { λ _. ⌜ now (graph .exit) ≡ put (put (now (graph .entry)) (gap .«list_at») (gap .last ∷ [])) (gap .«index_at») (gap .place ∷ []) ⌝ }
+    ensures { λ _. ⌜ now (graph .exit) ≡ put (put (now (graph .entry)) (gap .«list_at») (gap .last .0 ∷ [])) (gap .«index_at») (gap .place ∷ []) ⌝ }
 {
     let list_at = gap.list_at;
     let index_at = gap.index_at;
-    store_word(graph, list_at, gap.last);
+    let last = gap.last;
+    store_word(graph, list_at, last.0);
     store_word(graph, index_at, gap.place);
 }
 
 // The last listed contact takes the gap and is told its new place; the id is freed last.
-pub fn remove_standing(graph: &mut [u32], id: u32)
-    requires { ⌜ Checked (now graph) × (stands (now graph) id ≡ true) ⌝ }
-    ensures { λ _. ⌜ now (graph .exit) ≡ removedWords (now (graph .entry)) id ⌝ }
+pub fn remove_standing(graph: &mut [u32], id: ContactId)
+    requires { ⌜ Checked (now graph) × (stands (now graph) (id .0) ≡ true) ⌝ }
+    ensures { λ _. ⌜ now (graph .exit) ≡ removedWords (now (graph .entry)) (id .0) ⌝ }
 {
     let gap = gap_of(graph, id);
     let capacity = number_at(graph, GRAPH_CAPACITY);
     let listed = load_word(graph, GRAPH_LISTED);
     let freed = load_word(graph, GRAPH_FREED);
     close_gap(graph, gap);
-    store_word(graph, GRAPH_LIST + capacity + freed as usize, id);
+    store_word(graph, GRAPH_LIST + capacity + freed as usize, id.0);
     store_counts(graph, listed - 1, freed + 1);
 }
 
-pub fn remove(graph: &mut [u32], id: u32) -> RemoveAnswer
-    ensures { λ r. ⌜ Removed (now (graph .entry)) id (now (graph .exit)) r ⌝ }
+pub fn remove(graph: &mut [u32], id: ContactId) -> RemoveAnswer
+    ensures { λ r. ⌜ Removed (now (graph .entry)) (id .0) (now (graph .exit)) r ⌝ }
 {
     if !right_length(graph) {
         return RemoveAnswer::Refused(Refusal::WrongLength);

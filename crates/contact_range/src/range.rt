@@ -13,7 +13,9 @@ ghost use Rattle.words.specs.Words.{wordAt};
 ghost use Rattle.contact_range.specs.RangeLaws.{RightLength};
 use crate::places::contact_at;
 use crate::places::free_at;
+use crate::places::id_at;
 use crate::places::number_at;
+use contact_types::contact_id::ContactId;
 use data_structures::bit_vec::get;
 use data_structures::bit_vec::set;
 use layout::bits::MOST_BLOCKS;
@@ -161,7 +163,7 @@ fn listed_given(graph: &[u32]) -> bool
     let listed = number_at(graph, GRAPH_LISTED);
     let mut p = 0;
     while p < listed {
-        if given <= number_at(graph, GRAPH_LIST + p) {
+        if given <= id_at(graph, GRAPH_LIST + p).0 as usize {
             return false;
         }
         p += 1;
@@ -177,7 +179,7 @@ fn names_back(graph: &[u32]) -> bool
     let listed = number_at(graph, GRAPH_LISTED);
     let mut p = 0;
     while p < listed {
-        let id = number_at(graph, GRAPH_LIST + p);
+        let id = id_at(graph, GRAPH_LIST + p);
         let at = contact_at(graph, id);
         if number_at(graph, at + CONTACT_PAIR_INDEX) != p {
             return false;
@@ -195,7 +197,7 @@ fn contacts_fit(graph: &[u32]) -> bool
     let listed = number_at(graph, GRAPH_LISTED);
     let mut p = 0;
     while p < listed {
-        let id = number_at(graph, GRAPH_LIST + p);
+        let id = id_at(graph, GRAPH_LIST + p);
         let at = contact_at(graph, id);
         if !contact_fits(graph, at) {
             return false;
@@ -231,7 +233,7 @@ fn free_given(graph: &[u32]) -> bool
     let freed = number_at(graph, GRAPH_FREED);
     let mut k = 0;
     while k < freed {
-        if given <= free_at(graph, k) {
+        if given <= free_at(graph, k).0 as usize {
             return false;
         }
         k += 1;
@@ -248,26 +250,26 @@ fn free_once(graph: &[u32], marks: &mut [u64]) -> bool
     let mut k = 0;
     while k < freed {
         let id = free_at(graph, k);
-        if get(marks, id) {
+        if get(marks, id.0 as usize) {
             return false;
         }
-        set(marks, id);
+        set(marks, id.0 as usize);
         k += 1;
     }
     true
 }
 
 // An id stands if its record names a place of the list that names it.
-pub fn is_standing(graph: &[u32], id: usize) -> bool
-    requires { ⌜ Standing (now graph) × (id < givenOf (now graph)) ⌝ }
-    ensures { λ r. ⌜ r ≡ stands (now (graph .entry)) id ⌝ }
+pub fn is_standing(graph: &[u32], id: ContactId) -> bool
+    requires { ⌜ Standing (now graph) × (id .0 < givenOf (now graph)) ⌝ }
+    ensures { λ r. ⌜ r ≡ stands (now (graph .entry)) (id .0) ⌝ }
 {
     let at = contact_at(graph, id);
     let index = number_at(graph, at + CONTACT_PAIR_INDEX);
     if number_at(graph, GRAPH_LISTED) <= index {
         return false;
     }
-    number_at(graph, GRAPH_LIST + index) == id
+    id_at(graph, GRAPH_LIST + index).0 == id.0
 }
 
 // No id is both free and standing.
@@ -288,14 +290,14 @@ fn free_apart(graph: &[u32]) -> bool
 }
 
 // Whether an id stands or is free; the free ones are marked.
-fn is_known(graph: &[u32], marks: &[u64], id: usize) -> bool
-    requires { ⌜ Standing (now graph) × FreeTaken (now graph) (now marks) × (id < givenOf (now graph)) ⌝ }
-    ensures { λ r. ⌜ r ≡ (stands (now (graph .entry)) id || isFree (now (graph .entry)) id) ⌝ }
+fn is_known(graph: &[u32], marks: &[u64], id: ContactId) -> bool
+    requires { ⌜ Standing (now graph) × FreeTaken (now graph) (now marks) × (id .0 < givenOf (now graph)) ⌝ }
+    ensures { λ r. ⌜ r ≡ (stands (now (graph .entry)) (id .0) || isFree (now (graph .entry)) (id .0)) ⌝ }
 {
     if is_standing(graph, id) {
         return true;
     }
-    get(marks, id)
+    get(marks, id.0 as usize)
 }
 
 // An id that was given stands or is free.
@@ -306,7 +308,7 @@ fn given_known(graph: &[u32], marks: &[u64]) -> bool
     let given = number_at(graph, GRAPH_GIVEN);
     let mut id = 0;
     while id < given {
-        if !is_known(graph, marks, id) {
+        if !is_known(graph, marks, ContactId(id as u32)) {
             return false;
         }
         id += 1;
@@ -350,7 +352,7 @@ fn pairs_differ(graph: &[u32], marks: &mut [u64]) -> bool
     let listed = number_at(graph, GRAPH_LISTED);
     let mut p = 0;
     while p < listed {
-        let id = number_at(graph, GRAPH_LIST + p);
+        let id = id_at(graph, GRAPH_LIST + p);
         let at = contact_at(graph, id);
         let pair = pair_number(graph, at);
         if get(marks, pair) {

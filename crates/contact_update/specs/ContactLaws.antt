@@ -9,10 +9,11 @@ use Rattle.rows.specs.Rows.{part}
 use Rattle.rows.specs.SlotLaws.{updateAt-lent}
 use Rattle.rules.specs.Inputs.{Settings}
 use Rattle.rules.specs.Update.{isRecycled, Updated}
+use Rattle.rules.specs.Limits.{mostContacts}
 use Rattle.layout.specs.Contact.{contactSize}
 use Rattle.layout.specs.Graph.{graphContacts}
 use Rattle.layout.specs.Proposal.{proposalSize}
-use Rattle.contact_range.specs.RangeLaws.{Fitting, standing-below, standing-fits}
+use Rattle.contact_range.specs.RangeLaws.{RecordAt, Fitting, standing-below, standing-fits}
 use Rattle.contact_range.specs.Recorded.{capacityOf, contactAt}
 use Rattle.proposals.specs.Range.{Proposed}
 use Rattle.contact_update.specs.After.{proposalOf, recordAfter, graphAfter}
@@ -24,6 +25,25 @@ use Rattle.contact_update.specs.declared.record.Outcome.{Outcome}
 pub lent-part : (xs : List ℕ) (a n m : ℕ) → n ≡ m → take n (drop a xs) ≡ part xs a m
 unfolding part
 lent-part xs a n m e = ap (λ (k : ℕ). take k (drop a xs)) e
+
+-- where the two parts lie: within their rows, and below numbers that 64 bits hold
+pub record OwnRoom (proposals g : List ℕ) (id at : ℕ) : Type 0 where
+  pub below : id < mostContacts
+  pub small : at < 1_000_000
+  pub record-room : at + contactSize ≤ length g
+  pub proposal-room : id * proposalSize + proposalSize ≤ length proposals
+
+pub own-room : {colliders bodies proposals g : List ℕ} {id at : ℕ} → ContactReady colliders bodies proposals g id → RecordAt g id at → OwnRoom proposals g id at
+own-room {id = id} ready r =
+    let right = ready .checked .right in
+    let b = standing-below (ready .checked .range) id (ready .standing) in
+    let w = ready .proposalWords in
+    record {
+      below = omega (arith, right .most);
+      small = omega (arith, right .most, right .size, r .room);
+      record-room = r .room;
+      proposal-room = omega arith;
+    }
 
 module _ (s : Settings) {colliders bodies proposals g : List ℕ} {id : ℕ} (ready : ContactReady colliders bodies proposals g id) where
   below : id < capacityOf g

@@ -10,6 +10,7 @@ use crate::record::Outcome;
 use crate::record::update_record;
 use collider::settings::Settings;
 use contact_range::places::contact_at;
+use contact_types::contact_id::ContactId;
 use data_structures::bit_vec::set;
 use layout::contact::CONTACT_SIZE;
 use layout::proposal::PROPOSAL_SIZE;
@@ -22,14 +23,14 @@ fn update_own(
     bodies: &[u32],
     proposals: &[u32],
     graph: &mut [u32],
-    id: u32,
+    id: ContactId,
 ) -> Outcome
-    requires { ⌜ ContactReady (now colliders) (now bodies) (now proposals) (now graph) id ⌝ }
-    ensures { λ r. ⌜ OwnUpdated (plainSettings s) (now (colliders .entry)) (now (bodies .entry)) (now (proposals .entry)) id (now (graph .entry)) (now (graph .exit)) r ⌝ }
+    requires { ⌜ ContactReady (now colliders) (now bodies) (now proposals) (now graph) (id .0) ⌝ }
+    ensures { λ r. ⌜ OwnUpdated (plainSettings s) (now (colliders .entry)) (now (bodies .entry)) (now (proposals .entry)) (id .0) (now (graph .entry)) (now (graph .exit)) r ⌝ }
 {
-    let at = contact_at(graph, id as usize);
+    let at = contact_at(graph, id);
     let end = at + CONTACT_SIZE;
-    let from = id as usize * PROPOSAL_SIZE;
+    let from = id.0 as usize * PROPOSAL_SIZE;
     let to = from + PROPOSAL_SIZE;
     let proposal = &proposals[from..to];
     let own = &mut graph[at..end];
@@ -54,13 +55,13 @@ pub fn update_contact(
     graph: &mut [u32],
     bits: &mut [u64],
     distances: &mut [u32],
-    id: u32,
+    id: ContactId,
 ) -> bool
-    requires { ⌜ ContactReady (now colliders) (now bodies) (now proposals) (now graph) id × (id < 64 * length (now bits)) × (id < length (now distances)) ⌝ }
-    ensures { λ r. ⌜ ContactUpdated (plainSettings s) (now (colliders .entry)) (now (bodies .entry)) (now (proposals .entry)) id (now (graph .entry)) (now (graph .exit)) (now (bits .entry)) (now (bits .exit)) (now (distances .entry)) (now (distances .exit)) r ⌝ }
+    requires { ⌜ ContactReady (now colliders) (now bodies) (now proposals) (now graph) (id .0) × (id .0 < 64 * length (now bits)) × (id .0 < length (now distances)) ⌝ }
+    ensures { λ r. ⌜ ContactUpdated (plainSettings s) (now (colliders .entry)) (now (bodies .entry)) (now (proposals .entry)) (id .0) (now (graph .entry)) (now (graph .exit)) (now (bits .entry)) (now (bits .exit)) (now (distances .entry)) (now (distances .exit)) r ⌝ }
 {
     let o = update_own(s, colliders, bodies, proposals, graph, id);
-    set_if(bits, id as usize, o.bit);
-    store_float(distances, id as usize, o.max_contact_distance);
+    set_if(bits, id.0 as usize, o.bit);
+    store_float(distances, id.0 as usize, o.max_contact_distance);
     o.recycled
 }

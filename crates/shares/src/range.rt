@@ -11,14 +11,17 @@ ghost use Rattle.layout.specs.Shares.{sharesEntries, sharesLength};
 ghost use Rattle.rules.specs.Limits.{mostWorkers};
 ghost use Rattle.shares.specs.Shares.{startOf, totalOf, entriesStand, entriesOnce, sharesFit};
 use contact_graph::call::has_contact;
+use contact_range::places::id_at;
 use contact_range::places::number_at;
 use data_structures::bit_vec::get;
 use data_structures::bit_vec::set;
 use layout::bits::MOST_BLOCKS;
+use layout::graph::GRAPH_CAPACITY;
 use layout::graph::GRAPH_LISTED;
 use layout::limits::MOST_WORKERS;
 use layout::shares::SHARES_COUNTS;
 use layout::shares::SHARES_ENTRIES;
+use layout::shares::SHARES_WORKERS;
 use words::row::load_word;
 
 // The contacts of the workers before it.
@@ -42,14 +45,14 @@ fn entries_fit(shares: &[u32], graph: &[u32], total: usize, marks: &mut [u64]) -
 {
     let mut k = 0;
     while k < total {
-        let id = load_word(shares, SHARES_ENTRIES + k);
+        let id = id_at(shares, SHARES_ENTRIES + k);
         if !has_contact(graph, id) {
             return false;
         }
-        if get(marks, id as usize) {
+        if get(marks, id.0 as usize) {
             return false;
         }
-        set(marks, id as usize);
+        set(marks, id.0 as usize);
         k += 1;
     }
     true
@@ -59,7 +62,7 @@ pub fn shares_fit(shares: &[u32], graph: &[u32]) -> bool
     requires { ⌜ Checked (now graph) × (length (now shares) ≡ sharesLength (capacityOf (now graph))) ⌝ }
     ensures { λ r. ⌜ r ≡ sharesFit (now (shares .entry)) (now (graph .entry)) ⌝ }
 {
-    let workers = number_at(shares, 0);
+    let workers = number_at(shares, SHARES_WORKERS);
     if workers == 0 {
         return false;
     }
@@ -67,7 +70,7 @@ pub fn shares_fit(shares: &[u32], graph: &[u32]) -> bool
         return false;
     }
     let total = start_of(shares, workers);
-    if number_at(graph, 0) < total {
+    if number_at(graph, GRAPH_CAPACITY) < total {
         return false;
     }
     let mut marks = [0u64; MOST_BLOCKS];

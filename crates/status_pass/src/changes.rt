@@ -9,6 +9,7 @@ ghost use Rattle.contact_records.specs.Recorded.{pairAt};
 ghost use Rattle.status_pass.specs.Verdicts.{plainVerdict};
 ghost use Rattle.status_pass.specs.Listed.{changeWhere, ChangeIs, ChangesWritten};
 use crate::verdict::Verdict;
+use contact_types::contact_id::ContactId;
 use layout::change::CHANGE_SIZE;
 use layout::contact::CONTACT_BODY1;
 use layout::contact::CONTACT_BODY1_NUMBER;
@@ -64,21 +65,27 @@ fn change_of(words: &[u32], v: Verdict) -> ContactStatusChange
 }
 
 // n changes are written already. Answers how many are then.
-pub fn record_change(changes: &mut [u32], n: usize, words: &[u32], id: u32, v: Verdict) -> usize
+pub fn record_change(
+    changes: &mut [u32],
+    n: usize,
+    words: &[u32],
+    id: ContactId,
+    v: Verdict,
+) -> usize
     requires { ⌜ (length (now words) ≡ contactSize) × (n * changeSize + changeSize ≤ length (now changes)) ⌝ }
-    ensures { λ r. ⌜ ChangesWritten (now (changes .entry)) n (changesFor (plainVerdict v) (pairAt (now (words .entry)) 0 id)) (now (changes .exit)) r ⌝ }
+    ensures { λ r. ⌜ ChangesWritten (now (changes .entry)) n (changesFor (plainVerdict v) (pairAt (now (words .entry)) 0 (id .0))) (now (changes .exit)) r ⌝ }
 {
     match change_of(words, v) {
         ContactStatusChange::Nothing => n,
         ContactStatusChange::StartedGeneratingConstraints => {
-            let w = [0u32, id, 0, 0, 0];
+            let w = [0u32, id.0, 0, 0, 0];
             store_words(changes, n * CHANGE_SIZE, &w);
             n + 1
         }
         ContactStatusChange::StoppedGeneratingConstraints => {
             let w = [
                 1u32,
-                id,
+                id.0,
                 load_word(words, CONTACT_BODY1_NUMBER),
                 load_word(words, CONTACT_BODY2_NUMBER),
                 0,
@@ -89,7 +96,7 @@ pub fn record_change(changes: &mut [u32], n: usize, words: &[u32], id: u32, v: V
         ContactStatusChange::ManifoldCountChanged => {
             let w = [
                 2u32,
-                id,
+                id.0,
                 load_word(words, CONTACT_BODY1_NUMBER),
                 load_word(words, CONTACT_BODY2_NUMBER),
                 load_word(words, CONTACT_COUNT_CHANGE),

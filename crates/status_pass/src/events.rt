@@ -12,6 +12,7 @@ ghost use Rattle.status_pass.specs.EventsAndChanges.{namedWords};
 ghost use Rattle.status_pass.specs.Verdicts.{plainVerdict};
 ghost use Rattle.status_pass.specs.Listed.{eventWhere, EventIs, EventsWritten};
 use crate::verdict::Verdict;
+use contact_types::contact_id::ContactId;
 use layout::contact::CONTACT_BODY1;
 use layout::contact::CONTACT_BODY2;
 use layout::contact::CONTACT_COLLIDER1;
@@ -70,13 +71,13 @@ fn optional_number(words: &[u32], at: usize) -> u32
     }
 }
 
-fn event_words(words: &[u32], id: u32, kind: u32) -> [u32; EVENT_SIZE]
+fn event_words(words: &[u32], id: ContactId, kind: u32) -> [u32; EVENT_SIZE]
     requires { ⌜ length (now words) ≡ contactSize ⌝ }
-    ensures { λ r. ⌜ r ≡ namedWords kind (namesAt (now (words .entry)) 0 id) ⌝ }
+    ensures { λ r. ⌜ r ≡ namedWords kind (namesAt (now (words .entry)) 0 (id .0)) ⌝ }
 {
     [
         kind,
-        id,
+        id.0,
         load_word(words, CONTACT_COLLIDER1),
         load_word(words, CONTACT_COLLIDER2),
         optional_mark(words, CONTACT_BODY1),
@@ -87,9 +88,9 @@ fn event_words(words: &[u32], id: u32, kind: u32) -> [u32; EVENT_SIZE]
 }
 
 // n events are written already. Answers how many are then.
-pub fn record_event(events: &mut [u32], n: usize, words: &[u32], id: u32, v: Verdict) -> usize
+pub fn record_event(events: &mut [u32], n: usize, words: &[u32], id: ContactId, v: Verdict) -> usize
     requires { ⌜ (length (now words) ≡ contactSize) × (n * eventSize + eventSize ≤ length (now events)) ⌝ }
-    ensures { λ r. ⌜ EventsWritten (now (events .entry)) n (eventsFor (plainVerdict v) (pairAt (now (words .entry)) 0 id)) (now (events .exit)) r ⌝ }
+    ensures { λ r. ⌜ EventsWritten (now (events .entry)) n (eventsFor (plainVerdict v) (pairAt (now (words .entry)) 0 (id .0))) (now (events .exit)) r ⌝ }
 {
     match event_of(words, v) {
         EventKind::Nothing => n,

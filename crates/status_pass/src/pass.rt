@@ -5,6 +5,7 @@ ghost use lib.ListN.{length, take};
 ghost use Rattle.status_pass.specs.Pass.{RowsReady, PassDone};
 use crate::visit::WrittenCounts;
 use crate::visit::visit;
+use contact_types::contact_id::ContactId;
 
 // The first n of the ids. Answers how many events and changes are written.
 pub fn pass(
@@ -23,7 +24,7 @@ pub fn pass(
     };
     let mut k = 0;
     while k < n {
-        counts = visit(graph, events, changes, ids[k], counts);
+        counts = visit(graph, events, changes, ContactId(ids[k]), counts);
         k += 1;
     }
     counts

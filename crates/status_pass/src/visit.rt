@@ -12,6 +12,7 @@ use crate::verdict::Verdict;
 use crate::verdict::verdict_of;
 use contact_graph::remove::remove_standing;
 use contact_range::places::contact_at;
+use contact_types::contact_id::ContactId;
 use layout::contact::CONTACT_SIZE;
 
 // How many events and changes are written.
@@ -21,20 +22,20 @@ pub struct WrittenCounts {
 }
 
 // The contact's record is lent on, and no other's.
-fn settle_own(graph: &mut [u32], id: u32, v: Verdict)
-    requires { ⌜ Checked (now graph) × (stands (now graph) id ≡ true) ⌝ }
-    ensures { λ _. ⌜ now (graph .exit) ≡ settledGraph (plainVerdict v) id (now (graph .entry)) ⌝ }
+fn settle_own(graph: &mut [u32], id: ContactId, v: Verdict)
+    requires { ⌜ Checked (now graph) × (stands (now graph) (id .0) ≡ true) ⌝ }
+    ensures { λ _. ⌜ now (graph .exit) ≡ settledGraph (plainVerdict v) (id .0) (now (graph .entry)) ⌝ }
 {
-    let at = contact_at(graph, id as usize);
+    let at = contact_at(graph, id);
     let end = at + CONTACT_SIZE;
     let own = &mut graph[at..end];
     settle(own, v);
 }
 
 // A disjoint contact is removed, any other's marks are written.
-fn leave(graph: &mut [u32], id: u32, v: Verdict)
-    requires { ⌜ Checked (now graph) × (stands (now graph) id ≡ true) ⌝ }
-    ensures { λ _. ⌜ now (graph .exit) ≡ visitedGraph (plainVerdict v) id (now (graph .entry)) ⌝ }
+fn leave(graph: &mut [u32], id: ContactId, v: Verdict)
+    requires { ⌜ Checked (now graph) × (stands (now graph) (id .0) ≡ true) ⌝ }
+    ensures { λ _. ⌜ now (graph .exit) ≡ visitedGraph (plainVerdict v) (id .0) (now (graph .entry)) ⌝ }
 {
     match v {
         Verdict::Vanishes => remove_standing(graph, id),
@@ -50,13 +51,13 @@ pub fn visit(
     graph: &mut [u32],
     events: &mut [u32],
     changes: &mut [u32],
-    id: u32,
+    id: ContactId,
     counts: WrittenCounts,
 ) -> WrittenCounts
-    requires { ⌜ VisitReady (now graph) (now events) (now changes) id (counts .events) (counts .changes) ⌝ }
-    ensures { λ r. ⌜ VisitDone (now (graph .entry)) (now (events .entry)) (now (changes .entry)) id (counts .events) (counts .changes) (now (graph .exit)) (now (events .exit)) (now (changes .exit)) r ⌝ }
+    requires { ⌜ VisitReady (now graph) (now events) (now changes) (id .0) (counts .events) (counts .changes) ⌝ }
+    ensures { λ r. ⌜ VisitDone (now (graph .entry)) (now (events .entry)) (now (changes .entry)) (id .0) (counts .events) (counts .changes) (now (graph .exit)) (now (events .exit)) (now (changes .exit)) r ⌝ }
 {
-    let at = contact_at(graph, id as usize);
+    let at = contact_at(graph, id);
     let end = at + CONTACT_SIZE;
     let own = &graph[at..end];
     let v = verdict_of(own);

@@ -2,6 +2,7 @@
 ghost use Rattle.collider.specs.Views.{plainSettings};
 ghost use Rattle.update_pass.specs.Share.{ShareReady, ShareTaken};
 use collider::settings::Settings;
+use contact_range::places::id_at;
 use contact_update::contact::update_contact;
 use layout::shares::SHARES_COUNTS;
 use layout::shares::SHARES_ENTRIES;
@@ -29,7 +30,7 @@ pub fn update_share(
     let mut recycled = 0;
     let mut k = 0;
     while k < count {
-        let id = load_word(shares, from + k);
+        let id = id_at(shares, from + k);
         let again = update_contact(s, colliders, bodies, proposals, graph, bits, distances, id);
         recycled += mark_word(again);
         k += 1;

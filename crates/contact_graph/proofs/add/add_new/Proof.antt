@@ -52,5 +52,5 @@ returns c =
 pub add-new-spec : {M : Type 1} → statement M
 add-new-spec =
     tie.close
-    (tie.spec (search needs) new-id-requires (search needs) (search needs) (search needs) (search needs) contact-at-requires store-new-requires (search needs) (search needs) store-word-requires
+    (tie.spec (search needs) new-id-requires (search needs) (search needs) (search needs) contact-at-requires store-new-requires (search needs) (search needs) store-word-requires
     next-given-requires (search needs) add-store-three store-three-requires (search needs) returns)

@@ -6,7 +6,7 @@ use borrow.Author.Needs.{needs}
 use borrow.Author.Tests.{eq-eqb, ne-eqb}
 use Rattle.contact_graph.specs.Calls.{newIdOf}
 use Rattle.contact_range.specs.Recorded.{freeAt}
-use Rattle.contact_range.specs.RangeLaws.{Counts, counts, free-below}
+use Rattle.contact_range.specs.RangeLaws.{Counts, counts}
 use Rattle.contact_graph.proofs.add.new_id.Statement.{statement}
 use Rattle.contact_graph.proofs.add.new_id.Tie as tie
 
@@ -14,22 +14,13 @@ returns : tie.Need-returns
 unfolding newIdOf
 returns c =
     let at = c .before in
-    rw (eq-eqb _ 0 (sym (at .before .number-at .ensures) ∙ at .if1 .taken)) (c .load-word .ensures)
+    rw (eq-eqb _ 0 (sym (at .before .number-at .ensures) ∙ at .if1 .taken)) (c .id-at .ensures)
 
 free-at-requires : tie.Need-free-at-requires
 free-at-requires c κs =
     let s = c .before .before .before in
     let n = counts (s .pre .range) in
     (s .pre .right, omega (arith, c .before .number-at .ensures, c .if1 .left))
-
-cast-result : tie.Need-cast-result
-cast-result c =
-    let at = c .before in
-    let s = at .before .before .before in
-    let n = counts (s .pre .range) in
-    let b = free-below (s .pre .range) (at .before .number-at .result - 1) (omega (arith, at .before .number-at .ensures, at .if1 .left)) in
-    let m = s .pre .right .most in
-    omega (arith, c .free-at .ensures)
 
 returns-2 : tie.Need-returns-2
 unfolding newIdOf
@@ -38,4 +29,4 @@ returns-2 c =
     rw (ne-eqb _ 0 (λ e. at .if1 .left (at .before .number-at .ensures ∙ e))) (c .free-at .ensures ∙ ap (λ (n : ℕ). freeAt (at .before .before .before .args .graph .now) (n - 1)) (at .before .number-at .ensures))
 
 pub new-id-spec : {M : Type 1} → statement M
-new-id-spec = tie.close (tie.spec (search needs) (search needs) returns (search needs) free-at-requires cast-result returns-2)
+new-id-spec = tie.close (tie.spec (search needs) (search needs) returns (search needs) free-at-requires returns-2)

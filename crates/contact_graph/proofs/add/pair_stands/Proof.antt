@@ -51,18 +51,18 @@ module _ (c : tie.In-loop Inv-loop μ-loop) where
       let r = start .pre .right in
       omega (arith, within c)
 
-add-number-at : tie.Need-add-number-at Inv-loop μ-loop
-add-number-at c = omega (arith, small c)
+add-id-at : tie.Need-add-id-at Inv-loop μ-loop
+add-id-at c = omega (arith, small c)
 
-number-at-requires-2 : tie.Need-number-at-requires-2 Inv-loop μ-loop
-number-at-requires-2 c κs = inside c
+id-at-requires : tie.Need-id-at-requires Inv-loop μ-loop
+id-at-requires c κs = inside c
 
 contact-at-requires : tie.Need-contact-at-requires Inv-loop μ-loop
 contact-at-requires c κs =
     let w = c .before in
     let s = w .before .before .before .before in
     let b = listed-below (s .pre .range) (w .before .loop .p) (within w) in
-    (s .pre .right, omega (arith, c .number-at2 .ensures))
+    (s .pre .right, omega (arith, c .id-at .ensures))
 
 -- what the comparison says of the pair at that place
 compared : (c : tie.After-same-colliders Inv-loop μ-loop)
@@ -71,7 +71,7 @@ compared c =
     let at = c .before .before .before in
     let s = at .before .before .before .before .before .before .args in
     let g = s .graph .now in
-    let place = at .contact-at .ensures .place ∙ ap (contactAt g) (at .before .number-at2 .ensures) in
+    let place = at .contact-at .ensures .place ∙ ap (contactAt g) (at .before .id-at .ensures) in
     let w1 = c .before .before .load-word .ensures ∙ ap (wordAt g) place in
     let w2 = c .before .load-word2 .ensures ∙ ap (λ (n : ℕ). wordAt g (n + 1)) place in
     c .same-colliders .ensures ∙ (λ i. sameColliders (s .a) (s .b) (w1 i) (w2 i))
@@ -109,4 +109,4 @@ returns-2 c =
 pub pair-stands-spec : {M : Type 1} → statement M
 pair-stands-spec =
     tie.close
-    (tie.spec Inv-loop μ-loop (search needs) loop-holds add-number-at number-at-requires-2 contact-at-requires (search needs) (search needs) (search needs) (search needs) returns add-p loop-less loop-again returns-2)
+    (tie.spec Inv-loop μ-loop (search needs) loop-holds add-id-at id-at-requires contact-at-requires (search needs) (search needs) (search needs) (search needs) returns add-p loop-less loop-again returns-2)

@@ -9,23 +9,23 @@ use Rattle.contact_range.specs.Recorded.{contactAt, listedAt}
 use Rattle.contact_graph.proofs.remove.gap_of.Statement.{statement}
 use Rattle.contact_graph.proofs.remove.gap_of.Tie as tie
 
-room : (s : tie.Start) → Room (s .args .graph .now) (s .args .id)
-room s = removal-room (s .args .id) (s .pre .0) (s .pre .1)
+room : (s : tie.Start) → Room (s .args .graph .now) (s .args .id .0)
+room s = removal-room (s .args .id .0) (s .pre .0) (s .pre .1)
 
 contact-at-requires : tie.Need-contact-at-requires
 contact-at-requires c κs = let s = c .before .before in (s .pre .0 .right, room s .known)
 
-sub-load-word : tie.Need-sub-load-word
-sub-load-word c = let z = room (c .before .before .before .before) in omega (arith, c .before .before .number-at .ensures)
+sub-id-at : tie.Need-sub-id-at
+sub-id-at c = let z = room (c .before .before .before .before) in omega (arith, c .before .before .number-at .ensures)
 
-add-load-word-2 : tie.Need-add-load-word-2
-add-load-word-2 c = let z = room (c .before .before .before .before) in omega (arith, c .before .before .number-at .ensures)
+add-id-at : tie.Need-add-id-at
+add-id-at c = let z = room (c .before .before .before .before) in omega (arith, c .before .before .number-at .ensures)
 
-load-word-requires-2 : tie.Need-load-word-requires-2
-load-word-requires-2 c κs = let z = room (c .before .before .before .before) in omega (arith, c .before .before .number-at .ensures)
+id-at-requires : tie.Need-id-at-requires
+id-at-requires c κs = let z = room (c .before .before .before .before) in omega (arith, c .before .before .number-at .ensures)
 
-last-is : (c : tie.After-load-word2) → c .load-word2 .result ≡ listedAt (c .before .before .before .before .before .args .graph .now) (wordAt (c .before .before .before .before .before .args .graph .now) 2 - 1)
-last-is c = c .load-word2 .ensures ∙ ap (λ (n : ℕ). wordAt (c .before .before .before .before .before .args .graph .now) (4 + (n - 1))) (c .before .before .before .number-at .ensures)
+last-is : (c : tie.After-id-at) → c .id-at .result .0 ≡ listedAt (c .before .before .before .before .before .args .graph .now) (wordAt (c .before .before .before .before .before .args .graph .now) 2 - 1)
+last-is c = c .id-at .ensures ∙ ap (λ (n : ℕ). wordAt (c .before .before .before .before .before .args .graph .now) (4 + (n - 1))) (c .before .before .before .number-at .ensures)
 
 contact-at-requires-2 : tie.Need-contact-at-requires-2
 contact-at-requires-2 c κs =
@@ -47,5 +47,5 @@ returns c =
 pub gap-of-spec : {M : Type 1} → statement M
 gap-of-spec =
     tie.close
-    (tie.spec (search needs) contact-at-requires (search needs) (search needs) sub-load-word add-load-word-2 load-word-requires-2 (search needs) contact-at-requires-2
+    (tie.spec (search needs) contact-at-requires (search needs) (search needs) sub-id-at add-id-at id-at-requires contact-at-requires-2
     (search needs) (search needs) (search needs) returns)

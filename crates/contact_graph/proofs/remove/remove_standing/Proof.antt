@@ -10,8 +10,8 @@ use Rattle.contact_graph.specs.CallLaws.{Room, removal-room, gap-closed}
 use Rattle.contact_graph.proofs.remove.remove_standing.Statement.{statement}
 use Rattle.contact_graph.proofs.remove.remove_standing.Tie as tie
 
-room : (s : tie.Start) → Room (s .args .graph .now) (s .args .id)
-room s = removal-room (s .args .id) (s .pre .0) (s .pre .1)
+room : (s : tie.Start) → Room (s .args .graph .now) (s .args .id .0)
+room s = removal-room (s .args .id .0) (s .pre .0) (s .pre .1)
 
 gap-of-requires : tie.Need-gap-of-requires
 gap-of-requires c κs = c .before .before .pre

@@ -9,7 +9,7 @@ use Rattle.contact_range.proofs.places.free_at.Tie as tie
 returns : tie.Need-returns
 returns c =
     let a = c .before .before .before .args in
-    c .number-at2 .ensures ∙ ap (λ (n : ℕ). wordAt (a .graph .now) (4 + n + a .k)) (c .before .number-at .ensures)
+    c .id-at .ensures ∙ ap (λ (n : ℕ). wordAt (a .graph .now) (4 + n + a .k)) (c .before .number-at .ensures)
 
 pub free-at-spec : {M : Type 1} → statement M
 free-at-spec =

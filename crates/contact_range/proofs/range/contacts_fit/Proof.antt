@@ -37,7 +37,7 @@ returns c =
     let w = c .before .before .before .before .before in
     let g = w .before .before .before .args .graph .now in
     let r = c .before .before in
-    let i = place-read g (r .contact-at .ensures) (w .loop .p) (r .before .number-at2 .ensures) in
+    let i = place-read g (r .contact-at .ensures) (w .loop .p) (r .before .id-at .ensures) in
     sym (every-fails (test g) (listedCount g) (w .loop .p) (search needs) (refused (c .before .contact-fits .ensures ∙ ap (contactFits g) i) (c .if1 .taken)))
 
 loop-again : tie.Need-loop-again Inv-loop μ-loop
@@ -45,7 +45,7 @@ loop-again c =
     let w = c .before .before .before .before .before in
     let g = w .before .before .before .args .graph .now in
     let r = c .before .before in
-    let i = place-read g (r .contact-at .ensures) (w .loop .p) (r .before .number-at2 .ensures) in
+    let i = place-read g (r .contact-at .ensures) (w .loop .p) (r .before .id-at .ensures) in
     (search needs, every-next (test g) (w .loop .p) (w .loop .inv .1) (passed (c .before .contact-fits .ensures ∙ ap (contactFits g) i) (c .if1 .left)))
 
 returns-2 : tie.Need-returns-2 Inv-loop μ-loop

@@ -29,13 +29,13 @@ loop-holds c = (search needs, every-none (test (c .before .before .before .args 
 returns : tie.Need-returns Inv-loop μ-loop
 unfolding freeGiven
 returns c =
-    let w = c .before .before .before in
+    let w = c .before .before .before .before in
     let g = w .before .before .before .before .args .graph .now in
     sym (every-fails (test g) (freeCount g) (w .loop .k) (search needs) (le-ltb (freeAt g (w .loop .k)) (givenOf g) (search needs)))
 
 loop-again : tie.Need-loop-again Inv-loop μ-loop
 loop-again c =
-    let w = c .before .before .before in
+    let w = c .before .before .before .before in
     let g = w .before .before .before .before .args .graph .now in
     (search needs, every-next (test g) (w .loop .k) (w .loop .inv .1) (lt-ltb (freeAt g (w .loop .k)) (givenOf g) (search needs)))
 
@@ -48,4 +48,4 @@ returns-2 c =
 
 pub free-given-spec : {M : Type 1} → statement M
 free-given-spec =
-    tie.close (tie.spec Inv-loop μ-loop (search needs) (search needs) loop-holds (search needs) returns (search needs) (search needs) loop-again returns-2)
+    tie.close (tie.spec Inv-loop μ-loop (search needs) (search needs) loop-holds (search needs) (search needs) returns (search needs) (search needs) loop-again returns-2)

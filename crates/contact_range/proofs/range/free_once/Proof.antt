@@ -33,7 +33,7 @@ loop-holds c =
 returns : tie.Need-returns Inv-loop μ-loop
 unfolding freeOnce
 returns c =
-    let r = c .before .before .before in
+    let r = c .before .before .before .before in
     let w = r .before .before in
     let g = w .before .before .before .before .args .graph .now in
     let k = w .loop .k in
@@ -46,15 +46,15 @@ returns c =
 
 set-requires : tie.Need-set-requires Inv-loop μ-loop
 set-requires c κs =
-    let w = c .before .before .before .before .before .before in
+    let w = c .before .before .before .before .before .before .before .before in
     let s = w .before .before .before .before in
     omega (arith, freed-at (s .args .graph .now) (w .loop .k) (s .pre .1) (search needs))
 
 loop-again : tie.Need-loop-again Inv-loop μ-loop
 loop-again c =
     let u = c .before .before in
-    let b = u .before .before .before in
-    let r = b .before .before in
+    let b = u .before .before .before .before in
+    let r = b .before .before .before in
     let w = r .before .before in
     let s = w .before .before .before .before in
     let g = s .args .graph .now in
@@ -62,8 +62,8 @@ loop-again c =
     let v = w .loop .inv in
     let h = freed-at g k (s .pre .1) (search needs) in (
       search needs,
-      marks-size (w .loop .marks) (r .free-at .result) (u .set .ensures) (v .1),
-      every-next (test g) k (v .2) (seen (freeAt g) k (v .3) (r .free-at .ensures) (b .get .ensures) ∙ ap not (u .before .before .if1 .left)),
+      marks-size (w .loop .marks) (r .free-at .result .0) (u .set .ensures) (v .1),
+      every-next (test g) k (v .2) (seen (freeAt g) k (v .3) (r .free-at .ensures) (b .get .ensures) ∙ ap not (u .before .before .before .if1 .left)),
       marks-next (freeAt g) k (v .3) (r .free-at .ensures) (omega arith) (u .set .ensures),
     )
 
@@ -81,4 +81,4 @@ returns-2 c =
 
 pub free-once-spec : {M : Type 1} → statement M
 free-once-spec =
-    tie.close (tie.spec Inv-loop μ-loop (search needs) loop-holds (search needs) (search needs) (search needs) returns set-requires (search needs) (search needs) loop-again (search needs) returns-2)
+    tie.close (tie.spec Inv-loop μ-loop (search needs) loop-holds (search needs) (search needs) (search needs) (search needs) returns (search needs) set-requires (search needs) (search needs) loop-again (search needs) returns-2)

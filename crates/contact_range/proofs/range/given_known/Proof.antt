@@ -49,4 +49,4 @@ returns-2 c =
 
 pub given-known-spec : {M : Type 1} → statement M
 given-known-spec =
-    tie.close (tie.spec Inv-loop μ-loop (search needs) loop-holds is-known-requires returns (search needs) (search needs) loop-again returns-2)
+    tie.close (tie.spec Inv-loop μ-loop (search needs) loop-holds (search needs) is-known-requires returns (search needs) (search needs) loop-again returns-2)

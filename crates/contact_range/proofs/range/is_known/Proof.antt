@@ -12,9 +12,9 @@ returns c = rw (← c .before .is-standing .ensures, c .if1 .taken)
 
 returns-2 : tie.Need-returns-2
 returns-2 c =
-    let s = c .before .before in
-    rw (← s .is-standing .ensures, c .before .if1 .left) (c .get .ensures ∙ s .before .before .before .pre .1 .each _)
+    let s = c .before .before .before in
+    rw (← s .is-standing .ensures, c .before .before .if1 .left) (c .get .ensures ∙ s .before .before .before .pre .1 .each _)
 
 pub is-known-spec : {M : Type 1} → statement M
 is-known-spec =
-    tie.close (tie.spec is-standing-requires returns (search needs) returns-2)
+    tie.close (tie.spec is-standing-requires returns (search needs) (search needs) returns-2)

@@ -9,14 +9,14 @@ returns c =
     let n = c .before .before in
     let s = n .before .before .before in
     let g = s .args .graph .now in
-    standing-past g (s .args .id) (s .pre .0 .back) (index-of g (n .before .contact-at .ensures) (n .number-at .ensures)) (c .before .number-at2 .ensures) (c .if1 .taken)
+    standing-past g (s .args .id .0) (s .pre .0 .back) (index-of g (n .before .contact-at .ensures) (n .number-at .ensures)) (c .before .number-at2 .ensures) (c .if1 .taken)
 
 returns-2 : tie.Need-returns-2
 returns-2 c =
-    let n = c .before .before .before in
+    let n = c .before .before .before .before .before in
     let s = n .before .before .before in
     let g = s .args .graph .now in
-    standing-read g (s .args .id) (s .pre .0 .back) (index-of g (n .before .contact-at .ensures) (n .number-at .ensures)) (c .before .before .number-at2 .ensures) (c .before .if1 .left) (c .number-at3 .ensures)
+    standing-read g (s .args .id .0) (s .pre .0 .back) (index-of g (n .before .contact-at .ensures) (n .number-at .ensures)) (c .before .before .before .before .number-at2 .ensures) (c .before .before .before .if1 .left) (c .before .before .id-at .ensures)
 
 pub is-standing-spec : {M : Type 1} → statement M
 is-standing-spec =

@@ -40,7 +40,7 @@ returns c =
     let w = c .before .before .before .before .before in
     let g = w .before .before .before .args .graph .now in
     let r = c .before .before in
-    let i = index-read g (r .contact-at .ensures) (w .loop .p) (r .before .number-at2 .ensures) (c .before .number-at3 .ensures) in
+    let i = index-read g (r .contact-at .ensures) (w .loop .p) (r .before .id-at .ensures) (c .before .number-at2 .ensures) in
     sym (every-fails (test g) (listedCount g) (w .loop .p) (search needs) (ne-eqb (indexAt g (listedAt g (w .loop .p))) (w .loop .p) (λ e. omega arith)))
 
 loop-again : tie.Need-loop-again Inv-loop μ-loop
@@ -48,7 +48,7 @@ loop-again c =
     let w = c .before .before .before .before .before in
     let g = w .before .before .before .args .graph .now in
     let r = c .before .before in
-    let i = index-read g (r .contact-at .ensures) (w .loop .p) (r .before .number-at2 .ensures) (c .before .number-at3 .ensures) in
+    let i = index-read g (r .contact-at .ensures) (w .loop .p) (r .before .id-at .ensures) (c .before .number-at2 .ensures) in
     (search needs, every-next (test g) (w .loop .p) (w .loop .inv .1) (eq-eqb (indexAt g (listedAt g (w .loop .p))) (w .loop .p) (omega arith)))
 
 returns-2 : tie.Need-returns-2 Inv-loop μ-loop

@@ -38,7 +38,7 @@ pair-number-requires : tie.Need-pair-number-requires Inv-loop μ-loop
 pair-number-requires c κs =
     let w = c .before .before .before in
     let s = w .before .before .before .before in
-    let h = colliders-read (s .args .graph .now) (c .contact-at .ensures) (w .loop .p) (c .before .number-at2 .ensures) (s .pre .1) (search needs) in
+    let h = colliders-read (s .args .graph .now) (c .contact-at .ensures) (w .loop .p) (c .before .id-at .ensures) (s .pre .1) (search needs) in
     (search needs, h .0, h .1)
 
 returns : tie.Need-returns Inv-loop μ-loop
@@ -49,7 +49,7 @@ returns c =
     let s = w .before .before .before .before in
     let g = s .args .graph .now in
     let p = w .loop .p in
-    let n = number-read g p (r .before .contact-at .ensures) (r .before .before .number-at2 .ensures) (r .pair-number .ensures) in
+    let n = number-read g p (r .before .contact-at .ensures) (r .before .before .id-at .ensures) (r .pair-number .ensures) in
     sym (every-fails (test g) (listedCount g) p (search needs) (pair-seen g p (s .pre .1) (search needs) (w .loop .inv .3) n (c .before .get .ensures) ∙ ap not (c .if1 .taken)))
 
 set-requires : tie.Need-set-requires Inv-loop μ-loop
@@ -57,7 +57,7 @@ set-requires c κs =
     let r = c .before .before .before .before in
     let w = r .before .before .before .before in
     let s = w .before .before .before .before in
-    let n = number-read (s .args .graph .now) (w .loop .p) (r .before .contact-at .ensures) (r .before .before .number-at2 .ensures) (r .pair-number .ensures) in
+    let n = number-read (s .args .graph .now) (w .loop .p) (r .before .contact-at .ensures) (r .before .before .id-at .ensures) (r .pair-number .ensures) in
     omega (arith, place-below (s .args .graph .now) (w .loop .p) (s .pre .1) (search needs))
 
 loop-again : tie.Need-loop-again Inv-loop μ-loop
@@ -70,7 +70,7 @@ loop-again c =
     let g = s .args .graph .now in
     let p = w .loop .p in
     let v = w .loop .inv in
-    let n = number-read g p (r .before .contact-at .ensures) (r .before .before .number-at2 .ensures) (r .pair-number .ensures) in
+    let n = number-read g p (r .before .contact-at .ensures) (r .before .before .id-at .ensures) (r .pair-number .ensures) in
     let h = place-below g p (s .pre .1) (search needs) in (
       search needs,
       marks-size (w .loop .marks) (r .pair-number .result) (u .set .ensures) (v .1),

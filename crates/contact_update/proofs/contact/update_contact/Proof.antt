@@ -15,14 +15,14 @@ update-own-requires c κs = c .before .before .before .before .before .before .b
 
 returns : tie.Need-returns
 returns c =
-    let x = c .before .before .before .before .before .before .before .before .before .before .before .before .before .before .before .before .before .before .args in
-    let o = c .before .before .before .before .before .before .before .before .before .before .update-own .ensures in
+    let x = c .before .before .before .before .before .before .before .before .before .before .before .before .before .before .before .before .before .before .before .before .args in
+    let o = c .before .before .before .before .before .before .before .before .before .before .before .before .update-own .ensures in
     record {
       graph = o .graph;
-      bit = c .before .before .before .before .before .before .set-if .ensures ∙ ap (λ (b : Bool). cond b (marked (x .bits .now) (x .id)) (x .bits .now)) (o .bit);
-      distance = c .before .before .store-float .ensures ∙ ap (λ (d : Float). put (x .distances .now) (x .id) (floatWord d ∷ [])) (o .distance);
+      bit = c .before .before .before .before .before .before .before .set-if .ensures ∙ ap (λ (b : Bool). cond b (marked (x .bits .now) (x .id .0)) (x .bits .now)) (o .bit);
+      distance = c .before .before .store-float .ensures ∙ ap (λ (d : Float). put (x .distances .now) (x .id .0) (floatWord d ∷ [])) (o .distance);
       recycled = o .recycled;
     }
 
 pub update-contact-spec : {M : Type 1} → statement M
-update-contact-spec = tie.close (tie.spec update-own-requires (search needs) (search needs) (search needs) (search needs) (search needs) returns)
+update-contact-spec = tie.close (tie.spec update-own-requires (search needs) (search needs) (search needs) (search needs) (search needs) (search needs) (search needs) returns)

@@ -42,38 +42,38 @@ unfolding entriesStand
 returns c =
     let x = c .before .before .before .before .before .before .before .before .args in
     let k = c .before .before .before .before .loop .k in
-    let f = ap (stands (x .graph .now)) (sym (c .before .before .load-word .ensures)) ∙ refused (c .before .has-contact .ensures) (c .if1 .taken) in
+    let f = ap (stands (x .graph .now)) (sym (c .before .before .id-at .ensures)) ∙ refused (c .before .has-contact .ensures) (c .if1 .taken) in
     let z = every-fails (standing (x .shares .now) (x .graph .now)) (x .total) k (c .before .before .before .loop-test .taken) f in
     rw (← c .before .before .before .before .before .before .before .before .pre .1, z)
 
 returns-2 : tie.Need-returns-2 Inv-loop μ-loop
 unfolding entriesStand entriesOnce
 returns-2 c =
-    let x = c .before .before .before .before .before .before .before .before .before .before .before .args in
-    let k = c .before .before .before .before .before .before .before .loop .k in
-    let f = seen (entryAt (x .shares .now)) k (c .before .before .before .before .before .before .before .loop .inv .4) (c .before .before .before .before .before .load-word .ensures) (c .before .get .ensures) ∙ ap not (c .if2 .taken) in
-    let z = every-fails (fresh (x .shares .now)) (x .total) k (c .before .before .before .before .before .before .loop-test .taken) f in
-    rw (← c .before .before .before .before .before .before .before .before .before .before .before .pre .1, z) (sym (and-false (every (standing (x .shares .now) (x .graph .now)) (x .total))))
+    let x = c .before .before .before .before .before .before .before .before .before .before .before .before .args in
+    let k = c .before .before .before .before .before .before .before .before .loop .k in
+    let f = seen (entryAt (x .shares .now)) k (c .before .before .before .before .before .before .before .before .loop .inv .4) (c .before .before .before .before .before .before .id-at .ensures) (c .before .get .ensures) ∙ ap not (c .if2 .taken) in
+    let z = every-fails (fresh (x .shares .now)) (x .total) k (c .before .before .before .before .before .before .before .loop-test .taken) f in
+    rw (← c .before .before .before .before .before .before .before .before .before .before .before .before .pre .1, z) (sym (and-false (every (standing (x .shares .now) (x .graph .now)) (x .total))))
 
 set-requires : tie.Need-set-requires Inv-loop μ-loop
 set-requires c κs =
-    let s = c .before .before .before .before .before .before .before .before .before .before .before .before .pre .0 in
-    let b = standing-below (s .range) (c .before .before .before .before .before .before .load-word .result) (passed (c .before .before .before .before .before .has-contact .ensures) (c .before .before .before .before .if1 .left)) in
-    omega (arith, s .right .most, c .before .before .before .before .before .before .before .before .loop .inv .1)
+    let s = c .before .before .before .before .before .before .before .before .before .before .before .before .before .before .pre .0 in
+    let b = standing-below (s .range) (c .before .before .before .before .before .before .before .before .id-at .result .0) (passed (c .before .before .before .before .before .before .before .has-contact .ensures) (c .before .before .before .before .before .before .if1 .left)) in
+    omega (arith, s .right .most, c .before .before .before .before .before .before .before .before .before .before .loop .inv .1)
 
 loop-again : tie.Need-loop-again Inv-loop μ-loop
 loop-again c =
-    let x = c .before .before .before .before .before .before .before .before .before .before .before .before .before .before .before .args in
-    let w = c .before .before .before .before .before .before .before .before .before .before .before .loop in
-    let s = c .before .before .before .before .before .before .before .before .before .before .before .before .before .before .before .pre .0 in
-    let b = standing-below (s .range) (c .before .before .before .before .before .before .before .before .before .load-word .result) (passed (c .before .before .before .before .before .before .before .before .has-contact .ensures) (c .before .before .before .before .before .before .before .if1 .left)) in
-    let f = ap (stands (x .graph .now)) (sym (c .before .before .before .before .before .before .before .before .before .load-word .ensures)) ∙ passed (c .before .before .before .before .before .before .before .before .has-contact .ensures) (c .before .before .before .before .before .before .before .if1 .left) in
-    let g = seen (entryAt (x .shares .now)) (w .k) (w .inv .4) (c .before .before .before .before .before .before .before .before .before .load-word .ensures) (c .before .before .before .before .before .get .ensures) ∙ ap not (c .before .before .before .before .if2 .left) in (
+    let x = c .before .before .before .before .before .before .before .before .before .before .before .before .before .before .before .before .before .args in
+    let w = c .before .before .before .before .before .before .before .before .before .before .before .before .before .loop in
+    let s = c .before .before .before .before .before .before .before .before .before .before .before .before .before .before .before .before .before .pre .0 in
+    let b = standing-below (s .range) (c .before .before .before .before .before .before .before .before .before .before .before .id-at .result .0) (passed (c .before .before .before .before .before .before .before .before .before .before .has-contact .ensures) (c .before .before .before .before .before .before .before .before .before .if1 .left)) in
+    let f = ap (stands (x .graph .now)) (sym (c .before .before .before .before .before .before .before .before .before .before .before .id-at .ensures)) ∙ passed (c .before .before .before .before .before .before .before .before .before .before .has-contact .ensures) (c .before .before .before .before .before .before .before .before .before .if1 .left) in
+    let g = seen (entryAt (x .shares .now)) (w .k) (w .inv .4) (c .before .before .before .before .before .before .before .before .before .before .before .id-at .ensures) (c .before .before .before .before .before .before .get .ensures) ∙ ap not (c .before .before .before .before .before .if2 .left) in (
       search needs,
-      marks-size (w .marks) (c .before .before .before .before .before .before .before .before .before .load-word .result) (c .before .before .set .ensures) (w .inv .1),
+      marks-size (w .marks) (c .before .before .before .before .before .before .before .before .before .before .before .id-at .result .0) (c .before .before .set .ensures) (w .inv .1),
       every-next (standing (x .shares .now) (x .graph .now)) (w .k) (w .inv .2) f,
       every-next (fresh (x .shares .now)) (w .k) (w .inv .3) g,
-      marks-next (entryAt (x .shares .now)) (w .k) (w .inv .4) (c .before .before .before .before .before .before .before .before .before .load-word .ensures) (omega (arith, s .right .most, w .inv .1)) (c .before .before .set .ensures),
+      marks-next (entryAt (x .shares .now)) (w .k) (w .inv .4) (c .before .before .before .before .before .before .before .before .before .before .before .id-at .ensures) (omega (arith, s .right .most, w .inv .1)) (c .before .before .set .ensures),
     )
 
 returns-3 : tie.Need-returns-3 Inv-loop μ-loop

@@ -35,33 +35,25 @@ store-zeros-requires c κs = let d = c .before .before .before .before .before .
 number-at-requires-2 : tie.Need-number-at-requires-2 Inv-loop μ-loop
 number-at-requires-2 c κs = let d = c .before .before .before .before .before .before .before .before .before .before .pre .listed .size in omega arith
 
-mul-end : tie.Need-mul-end Inv-loop μ-loop
-mul-end c =
+-- all parts together are the bit words, few of them
+parts : (c : tie.After-number-at2 Inv-loop μ-loop) → (8 * c .before .blocks2 .result ≡ length (c .before .before .before .before .before .before .before .before .before .before .before .args .bits .now)) × (c .before .blocks2 .result ≤ 4)
+parts c =
     let n : c .before .blocks2 .result ≡ blocksOf (capacityOf (c .before .before .before .before .before .before .before .before .before .before .before .args .graph .now)) = c .before .blocks2 .ensures ∙ ap blocksOf (c .before .before .number-at .ensures) in
     let h = blocks-hold (capacityOf (c .before .before .before .before .before .before .before .before .before .before .before .args .graph .now)) .1 in
     let m = c .before .before .before .before .before .before .before .before .before .before .before .pre .listed .ready .checked .right .most in
-    omega (arith, c .before .before .before .before .before .before .before .before .before .before .before .pre .bitWords)
+    (omega (arith, c .before .before .before .before .before .before .before .before .before .before .before .pre .bitWords), omega arith)
+
+mul-end : tie.Need-mul-end Inv-loop μ-loop
+mul-end c = let z = parts c in omega (arith, z .1)
 
 sub-parts : tie.Need-sub-parts Inv-loop μ-loop
-sub-parts c =
-    let n : c .before .blocks2 .result ≡ blocksOf (capacityOf (c .before .before .before .before .before .before .before .before .before .before .before .args .graph .now)) = c .before .blocks2 .ensures ∙ ap blocksOf (c .before .before .number-at .ensures) in
-    let h = blocks-hold (capacityOf (c .before .before .before .before .before .before .before .before .before .before .before .args .graph .now)) .1 in
-    let m = c .before .before .before .before .before .before .before .before .before .before .before .pre .listed .ready .checked .right .most in
-    omega (arith, c .before .before .before .before .before .before .before .before .before .before .before .pre .bitWords)
+sub-parts c = omega arith
 
 part-parts-start : tie.Need-part-parts-start Inv-loop μ-loop
-part-parts-start c =
-    let n : c .before .blocks2 .result ≡ blocksOf (capacityOf (c .before .before .before .before .before .before .before .before .before .before .before .args .graph .now)) = c .before .blocks2 .ensures ∙ ap blocksOf (c .before .before .number-at .ensures) in
-    let h = blocks-hold (capacityOf (c .before .before .before .before .before .before .before .before .before .before .before .args .graph .now)) .1 in
-    let m = c .before .before .before .before .before .before .before .before .before .before .before .pre .listed .ready .checked .right .most in
-    omega (arith, c .before .before .before .before .before .before .before .before .before .before .before .pre .bitWords)
+part-parts-start c = omega arith
 
 part-parts-end : tie.Need-part-parts-end Inv-loop μ-loop
-part-parts-end c =
-    let n : c .before .blocks2 .result ≡ blocksOf (capacityOf (c .before .before .before .before .before .before .before .before .before .before .before .args .graph .now)) = c .before .blocks2 .ensures ∙ ap blocksOf (c .before .before .number-at .ensures) in
-    let h = blocks-hold (capacityOf (c .before .before .before .before .before .before .before .before .before .before .before .args .graph .now)) .1 in
-    let m = c .before .before .before .before .before .before .before .before .before .before .before .pre .listed .ready .checked .right .most in
-    omega (arith, c .before .before .before .before .before .before .before .before .before .before .before .pre .bitWords)
+part-parts-end c = let z = parts c in omega (arith, z .0)
 
 loop-holds : tie.Need-loop-holds Inv-loop μ-loop
 loop-holds c =
@@ -77,53 +69,32 @@ loop-holds c =
       search needs,
     )
 
-mul-from : tie.Need-mul-from Inv-loop μ-loop
-mul-from c =
+-- the worker's part lies in the bit words
+own : (c : tie.In-loop Inv-loop μ-loop) → let n = c .before .before .before .before .before .before .before .before .before .before .before .blocks2 .result in (c .before .loop .w * n + n ≤ length (c .before .loop .bits)) × (c .before .loop .w * n + n ≤ 256)
+own c =
     let l = subst (λ (n : ℕ). c .before .loop .w < n) (c .before .before .before .before .before .before .before .before .before .before .number-at2 .ensures) (c .loop-test .taken) in
     let o = own-places _ _ _ _ _ (c .before .before .before .before .before .before .before .before .before .before .before .before .before .before .before .before .before .before .before .before .before .pre .listed) (c .before .loop .w) l in
     let n : c .before .before .before .before .before .before .before .before .before .before .before .blocks2 .result ≡ blocksOf (capacityOf (c .before .before .before .before .before .before .before .before .before .before .before .before .before .before .before .before .before .before .before .before .before .args .graph .now)) = c .before .before .before .before .before .before .before .before .before .before .before .blocks2 .ensures ∙ ap blocksOf (c .before .before .before .before .before .before .before .before .before .before .before .before .number-at .ensures) in
     let p = ap (λ (k : ℕ). c .before .loop .w * k) n in
-    omega (arith, o .few, o .room, c .before .before .before .before .before .before .before .before .before .before .before .before .before .before .before .before .before .before .before .before .before .pre .bitWords, c .before .loop .inv .3)
+    (omega (arith, o .few, o .room, c .before .before .before .before .before .before .before .before .before .before .before .before .before .before .before .before .before .before .before .before .before .pre .bitWords, c .before .loop .inv .3), omega (arith, o .few, o .room, c .before .before .before .before .before .before .before .before .before .before .before .before .before .before .before .before .before .before .before .before .before .pre .bitWords, c .before .loop .inv .3))
+
+mul-from : tie.Need-mul-from Inv-loop μ-loop
+mul-from c = let o = own c in omega (arith, o .1)
 
 add-to : tie.Need-add-to Inv-loop μ-loop
-add-to c =
-    let l = subst (λ (n : ℕ). c .before .loop .w < n) (c .before .before .before .before .before .before .before .before .before .before .number-at2 .ensures) (c .loop-test .taken) in
-    let o = own-places _ _ _ _ _ (c .before .before .before .before .before .before .before .before .before .before .before .before .before .before .before .before .before .before .before .before .before .pre .listed) (c .before .loop .w) l in
-    let n : c .before .before .before .before .before .before .before .before .before .before .before .blocks2 .result ≡ blocksOf (capacityOf (c .before .before .before .before .before .before .before .before .before .before .before .before .before .before .before .before .before .before .before .before .before .args .graph .now)) = c .before .before .before .before .before .before .before .before .before .before .before .blocks2 .ensures ∙ ap blocksOf (c .before .before .before .before .before .before .before .before .before .before .before .before .number-at .ensures) in
-    let p = ap (λ (k : ℕ). c .before .loop .w * k) n in
-    omega (arith, o .few, o .room, c .before .before .before .before .before .before .before .before .before .before .before .before .before .before .before .before .before .before .before .before .before .pre .bitWords, c .before .loop .inv .3)
+add-to c = let o = own c in omega (arith, o .1)
 
 mul-own : tie.Need-mul-own Inv-loop μ-loop
-mul-own c =
-    let l = subst (λ (n : ℕ). c .before .loop .w < n) (c .before .before .before .before .before .before .before .before .before .before .number-at2 .ensures) (c .loop-test .taken) in
-    let o = own-places _ _ _ _ _ (c .before .before .before .before .before .before .before .before .before .before .before .before .before .before .before .before .before .before .before .before .before .pre .listed) (c .before .loop .w) l in
-    let n : c .before .before .before .before .before .before .before .before .before .before .before .blocks2 .result ≡ blocksOf (capacityOf (c .before .before .before .before .before .before .before .before .before .before .before .before .before .before .before .before .before .before .before .before .before .args .graph .now)) = c .before .before .before .before .before .before .before .before .before .before .before .blocks2 .ensures ∙ ap blocksOf (c .before .before .before .before .before .before .before .before .before .before .before .before .number-at .ensures) in
-    let p = ap (λ (k : ℕ). c .before .loop .w * k) n in
-    omega (arith, o .few, o .room, c .before .before .before .before .before .before .before .before .before .before .before .before .before .before .before .before .before .before .before .before .before .pre .bitWords, c .before .loop .inv .3)
+mul-own c = let o = own c in omega (arith, o .1)
 
 sub-own : tie.Need-sub-own Inv-loop μ-loop
-sub-own c =
-    let l = subst (λ (n : ℕ). c .before .loop .w < n) (c .before .before .before .before .before .before .before .before .before .before .number-at2 .ensures) (c .loop-test .taken) in
-    let o = own-places _ _ _ _ _ (c .before .before .before .before .before .before .before .before .before .before .before .before .before .before .before .before .before .before .before .before .before .pre .listed) (c .before .loop .w) l in
-    let n : c .before .before .before .before .before .before .before .before .before .before .before .blocks2 .result ≡ blocksOf (capacityOf (c .before .before .before .before .before .before .before .before .before .before .before .before .before .before .before .before .before .before .before .before .before .args .graph .now)) = c .before .before .before .before .before .before .before .before .before .before .before .blocks2 .ensures ∙ ap blocksOf (c .before .before .before .before .before .before .before .before .before .before .before .before .number-at .ensures) in
-    let p = ap (λ (k : ℕ). c .before .loop .w * k) n in
-    omega (arith, o .few, o .room, c .before .before .before .before .before .before .before .before .before .before .before .before .before .before .before .before .before .before .before .before .before .pre .bitWords, c .before .loop .inv .3)
+sub-own c = omega arith
 
 part-own-start : tie.Need-part-own-start Inv-loop μ-loop
-part-own-start c =
-    let l = subst (λ (n : ℕ). c .before .loop .w < n) (c .before .before .before .before .before .before .before .before .before .before .number-at2 .ensures) (c .loop-test .taken) in
-    let o = own-places _ _ _ _ _ (c .before .before .before .before .before .before .before .before .before .before .before .before .before .before .before .before .before .before .before .before .before .pre .listed) (c .before .loop .w) l in
-    let n : c .before .before .before .before .before .before .before .before .before .before .before .blocks2 .result ≡ blocksOf (capacityOf (c .before .before .before .before .before .before .before .before .before .before .before .before .before .before .before .before .before .before .before .before .before .args .graph .now)) = c .before .before .before .before .before .before .before .before .before .before .before .blocks2 .ensures ∙ ap blocksOf (c .before .before .before .before .before .before .before .before .before .before .before .before .number-at .ensures) in
-    let p = ap (λ (k : ℕ). c .before .loop .w * k) n in
-    omega (arith, o .few, o .room, c .before .before .before .before .before .before .before .before .before .before .before .before .before .before .before .before .before .before .before .before .before .pre .bitWords, c .before .loop .inv .3)
+part-own-start c = omega arith
 
 part-own-end : tie.Need-part-own-end Inv-loop μ-loop
-part-own-end c =
-    let l = subst (λ (n : ℕ). c .before .loop .w < n) (c .before .before .before .before .before .before .before .before .before .before .number-at2 .ensures) (c .loop-test .taken) in
-    let o = own-places _ _ _ _ _ (c .before .before .before .before .before .before .before .before .before .before .before .before .before .before .before .before .before .before .before .before .before .pre .listed) (c .before .loop .w) l in
-    let n : c .before .before .before .before .before .before .before .before .before .before .before .blocks2 .result ≡ blocksOf (capacityOf (c .before .before .before .before .before .before .before .before .before .before .before .before .before .before .before .before .before .before .before .before .before .args .graph .now)) = c .before .before .before .before .before .before .before .before .before .before .before .blocks2 .ensures ∙ ap blocksOf (c .before .before .before .before .before .before .before .before .before .before .before .before .number-at .ensures) in
-    let p = ap (λ (k : ℕ). c .before .loop .w * k) n in
-    omega (arith, o .few, o .room, c .before .before .before .before .before .before .before .before .before .before .before .before .before .before .before .before .before .before .before .before .before .pre .bitWords, c .before .loop .inv .3)
+part-own-end c = let o = own c in omega (arith, o .0)
 
 update-share-requires : tie.Need-update-share-requires Inv-loop μ-loop
 update-share-requires c κs =

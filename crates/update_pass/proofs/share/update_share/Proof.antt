@@ -37,16 +37,16 @@ loop-holds : tie.Need-loop-holds Inv-loop μ-loop
 unfolding upto graphAfterAll bitsAfter distancesAfter recycledOf
 loop-holds c = (search needs, record { graph = refl; bit = refl; distance = refl; recycled = refl }, search needs, search needs, search needs)
 
-add-load-word-2 : tie.Need-add-load-word-2 Inv-loop μ-loop
-add-load-word-2 c = let p = places _ _ _ _ _ _ (c .before .before .before .before .before .before .before .before .before .before .before .pre) in omega (arith, p .most, p .room, c .before .before .before .start-of .ensures, c .before .before .load-word .ensures, c .loop-test .taken)
+add-id-at : tie.Need-add-id-at Inv-loop μ-loop
+add-id-at c = let p = places _ _ _ _ _ _ (c .before .before .before .before .before .before .before .before .before .before .before .pre) in omega (arith, p .most, p .room, c .before .before .before .start-of .ensures, c .before .before .load-word .ensures, c .loop-test .taken)
 
-load-word-requires-2 : tie.Need-load-word-requires-2 Inv-loop μ-loop
-load-word-requires-2 c κs = let p = places _ _ _ _ _ _ (c .before .before .before .before .before .before .before .before .before .before .before .pre) in omega (arith, p .size, p .room, c .before .before .before .start-of .ensures, c .before .before .load-word .ensures, c .loop-test .taken)
+id-at-requires : tie.Need-id-at-requires Inv-loop μ-loop
+id-at-requires c κs = let p = places _ _ _ _ _ _ (c .before .before .before .before .before .before .before .before .before .before .before .pre) in omega (arith, p .size, p .room, c .before .before .before .start-of .ensures, c .before .before .load-word .ensures, c .loop-test .taken)
 
 update-contact-requires : tie.Need-update-contact-requires Inv-loop μ-loop
 update-contact-requires c κs =
     let l = subst (λ (n : ℕ). c .before .before .before .before .before .loop .k < n) (c .before .before .before .before .before .before .load-word .ensures) (c .before .before .before .before .loop-test .taken) in
-    let e = next-entry _ _ _ _ _ (c .before .before .before .before .before .before .before .before .before .before .before .before .before .before .before .pre .listed) _ (c .before .before .before .before .before .before .before .before .before .before .before .before .before .before .before .pre .given) (c .before .before .before .before .before .loop .k) l (ap (λ (n : ℕ). 9 + n) (c .before .before .before .before .before .before .before .start-of .ensures)) (c .before .before .before .load-word2 .ensures) in
+    let e = next-entry _ _ _ _ _ (c .before .before .before .before .before .before .before .before .before .before .before .before .before .before .before .pre .listed) _ (c .before .before .before .before .before .before .before .before .before .before .before .before .before .before .before .pre .given) (c .before .before .before .before .before .loop .k) l (ap (λ (n : ℕ). 9 + n) (c .before .before .before .before .before .before .before .start-of .ensures)) (c .before .before .before .id-at .ensures) in
     turn-ready _ _ _ _ _ _ (c .before .before .before .before .before .before .before .before .before .before .before .before .before .before .before .pre) (c .before .before .before .before .before .loop .k) (c .before .before .before .before .before .loop .inv .1) _ l e
 
 add-recycled : tie.Need-add-recycled Inv-loop μ-loop
@@ -58,7 +58,7 @@ add-recycled c =
 loop-again : tie.Need-loop-again Inv-loop μ-loop
 loop-again c =
     let l = subst (λ (n : ℕ). c .before .before .before .before .before .before .before .before .before .before .before .before .before .loop .k < n) (c .before .before .before .before .before .before .before .before .before .before .before .before .before .before .load-word .ensures) (c .before .before .before .before .before .before .before .before .before .before .before .before .loop-test .taken) in
-    let e = next-entry _ _ _ _ _ (c .before .before .before .before .before .before .before .before .before .before .before .before .before .before .before .before .before .before .before .before .before .before .before .pre .listed) _ (c .before .before .before .before .before .before .before .before .before .before .before .before .before .before .before .before .before .before .before .before .before .before .before .pre .given) (c .before .before .before .before .before .before .before .before .before .before .before .before .before .loop .k) l (ap (λ (n : ℕ). 9 + n) (c .before .before .before .before .before .before .before .before .before .before .before .before .before .before .before .start-of .ensures)) (c .before .before .before .before .before .before .before .before .before .before .before .load-word2 .ensures) in (
+    let e = next-entry _ _ _ _ _ (c .before .before .before .before .before .before .before .before .before .before .before .before .before .before .before .before .before .before .before .before .before .before .before .pre .listed) _ (c .before .before .before .before .before .before .before .before .before .before .before .before .before .before .before .before .before .before .before .before .before .before .before .pre .given) (c .before .before .before .before .before .before .before .before .before .before .before .before .before .loop .k) l (ap (λ (n : ℕ). 9 + n) (c .before .before .before .before .before .before .before .before .before .before .before .before .before .before .before .start-of .ensures)) (c .before .before .before .before .before .before .before .before .before .before .before .id-at .ensures) in (
       search needs,
       turn-taken _ _ _ _ _ _ (c .before .before .before .before .before .before .before .before .before .before .before .before .before .before .before .before .before .before .before .before .before .before .before .pre) (c .before .before .before .before .before .before .before .before .before .before .before .before .before .loop .k) (c .before .before .before .before .before .before .before .before .before .before .before .before .before .loop .inv .1) _ l e (c .before .before .before .before .before .before .before .update-contact .ensures) (c .mark-word .ensures),
       search needs,
@@ -72,4 +72,4 @@ returns c =
     turns-done _ _ _ _ _ _ (c .before .before .before .before .before .before .before .before .before .before .before .pre) (c .before .loop .k) (c .before .loop .inv .1) (e ∙ c .before .before .load-word .ensures)
 
 pub update-share-spec : {M : Type 1} → statement M
-update-share-spec = tie.close (tie.spec Inv-loop μ-loop start-of-requires add-from add-load-word load-word-requires (search needs) loop-holds add-load-word-2 load-word-requires-2 update-contact-requires (search needs) add-recycled (search needs) (search needs) loop-again (search needs) (search needs) (search needs) returns)
+update-share-spec = tie.close (tie.spec Inv-loop μ-loop start-of-requires add-from add-load-word load-word-requires (search needs) loop-holds add-id-at id-at-requires update-contact-requires (search needs) add-recycled (search needs) (search needs) loop-again (search needs) (search needs) (search needs) returns)
