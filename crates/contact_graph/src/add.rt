@@ -1,6 +1,6 @@
 // The public call `add`. From `add_edge_and_key_with` of avian's contact_graph.rs.
 ghost use mathlib.Core.Path.{_≡_};
-ghost use mathlib.Core.Bool.{true, cond, _&&_};
+ghost use mathlib.Core.Bool.{true, cond};
 ghost use lib.Dec.{eqb};
 ghost use mathlib.Core.List.{[], _∷_, _++_};
 ghost use Prim.Native.Nat.{_+_, _-_, _≤_, _<_};
@@ -27,6 +27,7 @@ use contact_range::range::in_range;
 use contact_range::range::right_length;
 use contact_types::contact_id::ContactId;
 use contact_types::refusal::Refusal;
+use data_structures::pair_key::PairKey;
 use layout::contact::CONTACT_CACHE;
 use layout::contact::CONTACT_COLLIDER2;
 use layout::contact::CONTACT_SIZE;
@@ -82,24 +83,11 @@ fn request_fits(a: Request) -> bool
     a.modify_contacts < 2
 }
 
-// a and c, and b and d.
-fn equal(a: u32, b: u32, c: u32, d: u32) -> bool
-    ensures { λ r. ⌜ r ≡ (eqb a c && eqb b d) ⌝ }
-{
-    if a != c {
-        return false;
-    }
-    b == d
-}
-
 // The same two colliders, in either order.
 fn same_colliders(a: u32, b: u32, c: u32, d: u32) -> bool
     ensures { λ r. ⌜ r ≡ sameColliders a b c d ⌝ }
 {
-    if equal(a, b, c, d) {
-        return true;
-    }
-    equal(a, b, d, c)
+    PairKey::new(a, b).0 == PairKey::new(c, d).0
 }
 
 // The pair stands already.

@@ -1,6 +1,6 @@
 -- What the range test's functions pass to each other, and the turns of its loops. Assumes nothing.
 use mathlib.Core.Path.{_≡_, refl, sym, ap, subst, _∙_}
-use Prim.Native.Nat.{ℕ, zero, suc, _+_, _*_, _/_, _%_, _≤_, _<_, min, max}
+use Prim.Native.Nat.{ℕ, zero, suc, _+_, _*_, _/_, _%_, _≤_, _<_, _^_, min, max}
 use native.Mathlib.Numerals.{add-one}
 use native.Mathlib.Omega.{arith}
 use mathlib.Core.Bool.{Bool, true, false, cond, not, _&&_, _||_, or-true, or-false, and-assoc, and-comm, true≢false}
@@ -14,7 +14,10 @@ use Rattle.rules.specs.Numbers.{every, any}
 use Rattle.rule_laws.specs.NumberLaws.{every-same}
 use Rattle.data_structures.specs.BitVec.{bitOf, bitAt, marked}
 use Rattle.data_structures.specs.BitVecLaws.{bit-marked, length-marked}
+use Rattle.data_structures.specs.PairKey.{keyOf, idsOf}
+use Rattle.data_structures.specs.PairKeyLaws.{key-order, key-same, ids-of-key}
 use Rattle.data_structures.specs.WordLaws.{bit-zero}
+use Rattle.data_structures.specs.declared.pair_key.PairIds.{PairIds}
 use Rattle.words.specs.Words.{wordAt}
 use Rattle.layout.specs.Contact.{contactPairIndex}
 use Rattle.contact_range.specs.Recorded.{capacityOf, listedCount, freeCount, listedAt, freeAt, contactAt}
@@ -240,6 +243,30 @@ same-straight a b = rw (eq-eqb a a refl, eq-eqb b b refl)
 same-crossed : (a b : ℕ) → sameColliders a b b a ≡ true
 unfolding sameColliders
 same-crossed a b = rw (eq-eqb a a refl, eq-eqb b b refl) (or-true (eqb a b && eqb b a))
+
+-- the number, from the two ids of the pair's key
+pub number-of-ids : (a b : ℕ) {i : PairIds} → a < 2 ^ 32 → b < 2 ^ 32 → i ≡ idsOf (keyOf a b) → i .lower * 256 + i .higher ≡ pairNumber a b
+number-of-ids a b h l e = ap (λ (p : PairIds). p .lower * 256 + p .higher) (e ∙ ids-of-key a b h l) ∙ sym (number-is a b)
+
+-- two pairs have one key exactly if they are the same, in either order
+module _ (a b c d : ℕ) (ha : a < 2 ^ 32) (hb : b < 2 ^ 32) (hc : c < 2 ^ 32) (hd : d < 2 ^ 32) where
+  pub key-colliders : eqb (keyOf a b) (keyOf c d) ≡ sameColliders a b c d
+  key-colliders = iff (eqb (keyOf a b) (keyOf c d)) (sameColliders a b c d) same one
+    where
+      one : sameColliders a b c d ≡ true → eqb (keyOf a b) (keyOf c d) ≡ true
+      one e =
+          eq-eqb (keyOf a b) (keyOf c d)
+          (elim (same-cases a b c d e) [
+            | inl s ↦ (λ i. keyOf (s .0 i) (s .1 i))
+            | inr s ↦ (λ i. keyOf (s .0 i) (s .1 i)) ∙ key-order d c
+          ])
+
+      same : eqb (keyOf a b) (keyOf c d) ≡ true → sameColliders a b c d ≡ true
+      same e =
+          elim (key-same a b c d ha hb hc hd (eqb-true (keyOf a b) (keyOf c d) e)) [
+            | inl s ↦ subst (λ (n : ℕ). sameColliders a b n d ≡ true) (s .0) (subst (λ (n : ℕ). sameColliders a b a n ≡ true) (s .1) (same-straight a b))
+            | inr s ↦ subst (λ (n : ℕ). sameColliders a b c n ≡ true) (s .0) (subst (λ (n : ℕ). sameColliders a b n a ≡ true) (s .1) (same-crossed a b))
+          ]
 
 -- two pairs have one number exactly if they are the same, in either order
 module _ (a b c d : ℕ) (ha : a < colliders) (hb : b < colliders) (hc : c < colliders) (hd : d < colliders) where

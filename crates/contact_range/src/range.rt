@@ -18,6 +18,7 @@ use crate::places::number_at;
 use contact_types::contact_id::ContactId;
 use data_structures::bit_vec::get;
 use data_structures::bit_vec::set;
+use data_structures::pair_key::PairKey;
 use layout::bits::MOST_BLOCKS;
 use layout::contact::CONTACT_BODY1;
 use layout::contact::CONTACT_BODY2;
@@ -339,9 +340,9 @@ fn pair_number(graph: &[u32], at: usize) -> usize
     requires { ⌜ (at + contactSize ≤ length (now graph)) × (wordAt (now graph) at < colliders) × (wordAt (now graph) (at + contactCollider2) < colliders) ⌝ }
     ensures { λ r. ⌜ r ≡ pairNumber (wordAt (now (graph .entry)) at) (wordAt (now (graph .entry)) (at + 1)) ⌝ }
 {
-    let a = number_at(graph, at);
-    let b = number_at(graph, at + 1);
-    if a < b { a * 256 + b } else { b * 256 + a }
+    let key = PairKey::new(load_word(graph, at), load_word(graph, at + CONTACT_COLLIDER2));
+    let ids = key.get();
+    ids.lower as usize * COLLIDERS as usize + ids.higher as usize
 }
 
 // The pairs differ: each is marked by its number, and none is marked already.

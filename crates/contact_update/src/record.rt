@@ -130,13 +130,14 @@ fn update_overlapping(
 {
     let flags = load_flags(words, CONTACT_FLAGS);
     let cache = load_cache(words, CONTACT_CACHE);
+    if !recycle(s, flags.touching, a, b, cache) {
+        return update_full(s, c1, c2, a, b, proposal, words);
+    }
+    // There is a cache: without one, recycling is abandoned.
     let RecyclingCache::Cached(k) = cache else {
         return update_full(s, c1, c2, a, b, proposal, words);
     };
-    if recycle(s, flags.touching, a, b, cache) {
-        return update_recycled(words, a, b, k);
-    }
-    update_full(s, c1, c2, a, b, proposal, words)
+    update_recycled(words, a, b, k)
 }
 
 // The body that a collider names.

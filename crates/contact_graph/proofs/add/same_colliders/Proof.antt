@@ -1,17 +1,17 @@
--- `contact_graph::add::same_colliders` meets its contract. Assumes nothing.
+-- `contact_graph::add::same_colliders` meets its contract: a pair has one key in either order, and no other pair has it. Assumes nothing.
+use mathlib.Core.Path.{_∙_}
+use lib.Dec.{eqb}
 use borrow.Author.Needs.{needs}
-use mathlib.Core.Path.{sym, _∙_}
-use Rattle.contact_range.specs.Range.{sameColliders}
+use Rattle.contact_range.specs.RangeStepLaws.{key-colliders}
 use Rattle.contact_graph.proofs.add.same_colliders.Statement.{statement}
 use Rattle.contact_graph.proofs.add.same_colliders.Tie as tie
 
 returns : tie.Need-returns
-unfolding sameColliders
-returns c = rw (sym (c .before .equal .ensures) ∙ c .if1 .taken)
-
-returns-2 : tie.Need-returns-2
-unfolding sameColliders
-returns-2 c = rw (sym (c .before .before .equal .ensures) ∙ c .before .if1 .left) (c .equal2 .ensures)
+returns c =
+    let n = c .before .before in
+    let k = n .before in
+    let s = k .before .args in
+    (λ i. eqb (k .new .ensures i) (n .new2 .ensures i)) ∙ key-colliders (s .a) (s .b) (s .c) (s .d) (search needs) (search needs) (search needs) (search needs)
 
 pub same-colliders-spec : {M : Type 1} → statement M
-same-colliders-spec = tie.close (tie.spec (search needs) returns (search needs) returns-2)
+same-colliders-spec = tie.close (tie.spec (search needs) (search needs) returns)

@@ -1,15 +1,19 @@
--- `contact_range::range::pair_number` meets its contract. Assumes nothing.
-use borrow.Author.Tests.{lt-ltb, le-ltb}
+-- `contact_range::range::pair_number` meets its contract: the lower and the higher collider are the two ids of the pair's key. Assumes nothing.
+use mathlib.Core.Path.{ap, _∙_}
 use borrow.Author.Needs.{needs}
+use Rattle.data_structures.specs.PairKey.{idsOf}
+use Rattle.contact_range.specs.RangeStepLaws.{pairNumber, number-of-ids}
 use Rattle.contact_range.proofs.range.pair_number.Statement.{statement}
 use Rattle.contact_range.proofs.range.pair_number.Tie as tie
 
 returns : tie.Need-returns
-returns c = rw (← c .before .before .number-at .ensures, ← c .before .number-at2 .ensures, lt-ltb _ _ (c .if1 .taken))
-
-returns-2 : tie.Need-returns-2
-returns-2 c = rw (← c .before .before .number-at .ensures, ← c .before .number-at2 .ensures, le-ltb _ _ (c .if1 .left))
+returns c =
+    let g = c .before .before in
+    let k = g .before in
+    number-of-ids _ _ (search needs) (search needs) (g .get .ensures ∙ ap idsOf (k .new .ensures))
+    ∙ (λ i. pairNumber (k .before .before .load-word .ensures i) (k .before .load-word2 .ensures i))
 
 pub pair-number-spec : {M : Type 1} → statement M
 pair-number-spec =
-    tie.close (tie.spec (search needs) (search needs) (search needs) (search needs) (search needs) (search needs) (search needs) returns returns-2)
+    tie.close
+    (tie.spec (search needs) (search needs) (search needs) (search needs) (search needs) (search needs) (search needs) (search needs) (search needs) (search needs) returns)
