@@ -30,23 +30,36 @@ coefficientFits xs at = whereSet (wordAt xs at) (isRule (wordAt xs (at + 2)))
 unfoldable pub settingsFit : List ℕ → Bool
 settingsFit xs = isMark (wordAt xs settingsMatchContacts) && (isRule (wordAt xs (settingsFriction + 1)) && isRule (wordAt xs (settingsRestitution + 1)))
 
-unfoldable pub colliderFits : List ℕ → ℕ → Bool
-colliderFits xs at =
-    whereSet (wordAt xs at)
-    (whereSet (wordAt xs (at + colliderBody)) (ltb (wordAt xs (at + colliderBody + 1)) bodies)
+-- mark, number
+unfoldable pub bodyNumberFits : List ℕ → ℕ → Bool
+bodyNumberFits xs at = whereSet (wordAt xs at) (ltb (wordAt xs (at + 1)) bodies)
+
+-- what is asked of a collider that is present
+unfoldable pub colliderValuesFit : List ℕ → ℕ → Bool
+unfolding bodyNumberFits
+colliderValuesFit xs at =
+    bodyNumberFits xs (at + colliderBody)
     && (coefficientFits xs (at + colliderFriction)
     && (coefficientFits xs (at + colliderRestitution)
-    && (isMark (wordAt xs (at + colliderMargin)) && isMark (wordAt xs (at + colliderSensor))))))
+    && (isMark (wordAt xs (at + colliderMargin)) && isMark (wordAt xs (at + colliderSensor)))))
+
+unfoldable pub colliderFits : List ℕ → ℕ → Bool
+unfolding colliderValuesFit
+colliderFits xs at = whereSet (wordAt xs at) (colliderValuesFit xs at)
 
 unfoldable pub collidersFit : List ℕ → Bool
 collidersFit xs = every (λ n. colliderFits xs (n * colliderSize)) colliders
 
-unfoldable pub bodyFits : List ℕ → ℕ → Bool
-bodyFits xs at =
-    whereSet (wordAt xs at)
-    (isMark (wordAt xs (at + bodyStatic))
+-- what is asked of a body that is present
+unfoldable pub bodyValuesFit : List ℕ → ℕ → Bool
+bodyValuesFit xs at =
+    isMark (wordAt xs (at + bodyStatic))
     && (coefficientFits xs (at + bodyFriction)
-    && (isMark (wordAt xs (at + bodyMargin)) && isMark (wordAt xs (at + bodySpeculativeMaximum)))))
+    && (isMark (wordAt xs (at + bodyMargin)) && isMark (wordAt xs (at + bodySpeculativeMaximum))))
+
+unfoldable pub bodyFits : List ℕ → ℕ → Bool
+unfolding bodyValuesFit
+bodyFits xs at = whereSet (wordAt xs at) (bodyValuesFit xs at)
 
 unfoldable pub bodiesFit : List ℕ → Bool
 bodiesFit xs = every (λ n. bodyFits xs (n * bodySize)) bodies

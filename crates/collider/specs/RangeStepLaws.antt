@@ -6,27 +6,8 @@ use mathlib.Core.List.{List}
 use native.Mathlib.Omega.{arith}
 use borrow.Author.Tests.{le-ltb, ne-eqb}
 use lib.Dec.{eqb, ltb}
-use Rattle.rules.specs.Limits.{bodies}
 use Rattle.words.specs.Words.{wordAt}
-use Rattle.layout.specs.Body.{bodyFriction, bodyMargin, bodySpeculativeMaximum, bodyStatic}
-use Rattle.layout.specs.Collider.{colliderBody, colliderFriction, colliderMargin, colliderRestitution, colliderSensor}
-use Rattle.collider.specs.Range.{isMark, whereSet, coefficientFits, colliderFits, bodyFits}
-
-unfoldable pub bodyNumberFits : List ℕ → ℕ → Bool
-bodyNumberFits xs at = whereSet (wordAt xs at) (ltb (wordAt xs (at + 1)) bodies)
-
-unfoldable pub colliderValuesFit : List ℕ → ℕ → Bool
-colliderValuesFit xs at =
-    bodyNumberFits xs (at + colliderBody)
-    && (coefficientFits xs (at + colliderFriction)
-    && (coefficientFits xs (at + colliderRestitution)
-    && (isMark (wordAt xs (at + colliderMargin)) && isMark (wordAt xs (at + colliderSensor)))))
-
-unfoldable pub bodyValuesFit : List ℕ → ℕ → Bool
-bodyValuesFit xs at =
-    isMark (wordAt xs (at + bodyStatic))
-    && (coefficientFits xs (at + bodyFriction)
-    && (isMark (wordAt xs (at + bodyMargin)) && isMark (wordAt xs (at + bodySpeculativeMaximum))))
+use Rattle.collider.specs.Range.{whereSet, colliderValuesFit, colliderFits, bodyValuesFit, bodyFits}
 
 -- a mark of 0 asks nothing, a mark of 1 the rest, and another is refused
 pub where-none : (m : ℕ) (asked : Bool) → m ≡ 0 → true ≡ whereSet m asked
@@ -43,9 +24,9 @@ where-other (suc (suc m)) asked n =
 
 module _ (xs : List ℕ) (at : ℕ) where
   pub collider-fits-whole : whereSet (wordAt xs at) (colliderValuesFit xs at) ≡ colliderFits xs at
-  unfolding colliderFits colliderValuesFit bodyNumberFits
+  unfolding colliderFits
   collider-fits-whole = refl
 
   pub body-fits-whole : whereSet (wordAt xs at) (bodyValuesFit xs at) ≡ bodyFits xs at
-  unfolding bodyFits bodyValuesFit
+  unfolding bodyFits
   body-fits-whole = refl

@@ -13,9 +13,10 @@ use Rattle.words.specs.Words.{wordAt}
 use Rattle.layout.specs.Contact.{contactPairIndex, contactSize}
 use Rattle.contact_range.specs.Recorded.{capacityOf, givenOf, listedCount, freeCount, listedAt, freeAt, contactAt}
 use Rattle.contact_range.specs.Range.{contactFits, countsFit, listedGiven, namesBack, contactsFit, freeGiven, freeOnce, stands, isFree, freeApart, givenKnown, sameColliders, samePair, pairsOnce, InRange}
-use Rattle.contact_range.specs.RangeLaws.{holds, shown, Counts, counts, fits-at, stands-at, stands-found, free-at, free-found, listed-given, listed-below, listed-index, free-given, free-not-standing, free-once, given-known, pair-once}
+use Rattle.contact_range.specs.RangeLaws.{holds, shown, counts, fits-at, stands-at, stands-found, free-at, free-found, listed-given, listed-below, listed-index, free-given, free-not-standing, free-once, given-known, pair-once}
 use Rattle.contact_graph.specs.EffectLaws.{AddEffect, same-or-not}
 use Rattle.contact_range.specs.FitsLaws.{fits-same}
+use Rattle.contact_range.specs.Conditions.{Counts}
 
 -- the new id, the ids then given and the ids then free: the lowest never given where none is free, else the one freed last
 pub data NewId (g : List ℕ) (id m n : ℕ) : Type 0 where

@@ -15,18 +15,19 @@ use Rattle.words.specs.Words.{floatWord, markWord}
 use Rattle.contact_types.specs.declared.contact_id.ContactId.{ContactId}
 use Rattle.contact_types.specs.declared.refusal.Refusal.the-variants.{WrongLength, OutOfRange, SameCollider, PairExists, GraphFull}
 use Rattle.manifold_records.specs.Written.{zeros}
-use Rattle.contact_records.specs.NewLaws.{newContactWords, new-contact, zeros-add}
-use Rattle.contact_records.specs.Written.{optionalWords}
+use Rattle.contact_records.specs.NewLaws.{new-contact, zeros-add}
+use Rattle.contact_records.specs.Written.{optionalWords, newContactWords}
 use Rattle.contact_graph.specs.Calls.{bodyFits, bodyWord, optional, requestFits, additionOf, pairStands, addRefusal, newIdOf, addedWords}
 use Rattle.contact_graph.specs.Adding.{AddedNew}
 use Rattle.contact_range.specs.Checked.{Checked}
 use Rattle.contact_graph.specs.IdLaws.{new-id}
 use Rattle.contact_graph.specs.Promises.{Added, added}
-use Rattle.contact_range.specs.RangeLaws.{RightLength, Counts, counts, first-of, rest-of}
+use Rattle.contact_range.specs.RangeLaws.{counts, first-of, rest-of}
 use Rattle.contact_range.specs.Recorded.{capacityOf, givenOf, listedCount, freeCount, contactAt}
 use Rattle.contact_graph.specs.declared.add.AddAnswer.the-variants.{Refused}
 use Rattle.contact_graph.specs.declared.add.AddAnswer.the-variants as answers
 use Rattle.contact_range.specs.Range.{isMark, rightLength, inRange}
+use Rattle.contact_range.specs.Conditions.{RightLength, Counts}
 use Rattle.manifold_records.specs.ListLaws.{length-zeros}
 use Rattle.contact_graph.specs.declared.call.Request.{Request}
 

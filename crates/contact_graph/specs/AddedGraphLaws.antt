@@ -32,12 +32,13 @@ use Rattle.contact_records.specs.Recorded.{pairAt}
 use Rattle.contact_records.specs.Written.{contactWords}
 use Rattle.contact_range.specs.Recorded.{capacityOf, givenOf, listedCount, freeCount, listedAt, freeAt, contactAt, graphOf}
 use Rattle.contact_range.specs.Range.{isMark, namesFit, marksFit, manifoldsFit, contactFits, sameColliders, rightLength, inRange, stands, InRange}
-use Rattle.contact_range.specs.RangeLaws.{RightLength, first-of, rest-of, counts, stands-at, listed-below, listed-fits}
+use Rattle.contact_range.specs.RangeLaws.{first-of, rest-of, counts, stands-at, listed-below, listed-fits}
 use Rattle.contact_graph.specs.IdLaws.{new-id}
 use Rattle.contact_graph.specs.Calls.{bodyFits, bodyWord, requestFits, additionOf, pairStands, addRefusal, newIdOf, addedWords}
 use Rattle.contact_range.specs.Checked.{Checked}
 use Rattle.contact_graph.specs.EffectLaws.{AddEffect, add-effect}
 use Rattle.contact_range.specs.FitsLaws.{fits-same}
+use Rattle.contact_range.specs.Conditions.{RightLength}
 use Rattle.contact_graph.specs.AddKeepsLaws.{NewId, lowest, freed, add-keeps}
 use Rattle.contact_graph.specs.RemoveKeepsLaws.{colliders-swap}
 use Rattle.contact_graph.specs.AddLaws.{request-words, add-room}

@@ -15,9 +15,9 @@ use Rattle.contact_range.specs.Checked.{Checked}
 use Rattle.contact_graph.specs.IdLaws.{given-sum}
 use Rattle.contact_graph.specs.Promises.{Removed}
 use Rattle.contact_range.specs.Range.{rightLength, inRange, stands}
-use Rattle.contact_range.specs.RangeLaws.{RightLength, right-length, in-range, holds, shown, Counts, counts, standing-place, standing-below, listed-below, never-given}
-use Rattle.contact_range.specs.RangeStepLaws.{Counted, ListedGiven, Standing}
+use Rattle.contact_range.specs.RangeLaws.{right-length, in-range, holds, shown, counts, standing-place, standing-below, listed-below, never-given}
 use Rattle.contact_range.specs.Recorded.{capacityOf, givenOf, listedCount, freeCount, listedAt, contactAt}
+use Rattle.contact_range.specs.Conditions.{RightLength, Counts, Counted, ListedGiven, Standing}
 use Rattle.contact_graph.specs.Removing.{GapOf}
 use Rattle.contact_graph.specs.declared.remove.Gap.{Gap}
 use Rattle.contact_graph.specs.declared.remove.RemoveAnswer.the-variants.{Done, Refused}

@@ -16,7 +16,7 @@ use Rattle.words.specs.Words.{wordAt}
 use Rattle.layout.specs.Contact.{contactPairIndex, contactSize}
 use Rattle.layout.specs.Graph.{contactPlace, graphFree}
 use Rattle.contact_range.specs.Recorded.{capacityOf, givenOf, listedCount, freeCount, listedAt, freeAt, contactAt}
-use Rattle.contact_range.specs.RangeLaws.{RightLength}
+use Rattle.contact_range.specs.Conditions.{RightLength}
 
 -- ---- where a record lies in a graph of the right length
 module _ {g : List ℕ} (r : RightLength g) where

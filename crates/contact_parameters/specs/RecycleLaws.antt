@@ -13,28 +13,28 @@ use Rattle.rules.specs.Recycling.{scaledRecycle, toleranceFor, leastSquaredDot,
 use Rattle.rules.specs.Sides.{Side}
 
 module _ (s : Settings) (touching : Bool) (a b : Side) where
-  pub recycle-disabled : (o : Option Cache) → le (scaledRecycle s) zeroF ≡ true → false ≡ recycles s touching a b o
+  pub recycling-off : (o : Option Cache) → le (scaledRecycle s) zeroF ≡ true → false ≡ recycles s touching a b o
   unfolding recycles
-  recycle-disabled none p = refl
-  recycle-disabled (some k) p = rw p
+  recycling-off none p = refl
+  recycling-off (some k) p = rw p
 
   pub recycle-none : (o : Option Cache) → o ≡ none → false ≡ recycles s touching a b o
   unfolding recycles
   recycle-none o e = rw e
 
   module _ (o : Option Cache) (k : Cache) (e : o ≡ some k) (on : le (scaledRecycle s) zeroF ≡ false) where
-    pub recycle-turned : {t : Float} → t ≡ leastSquaredDot a b k → le t (s .recycleCosine) ≡ true → false ≡ recycles s touching a b o
+    pub rotated-too-far : {t : Float} → t ≡ leastSquaredDot a b k → le t (s .recycleCosine) ≡ true → false ≡ recycles s touching a b o
     unfolding recycles
-    recycle-turned p q = rw (e, on, ← p, q)
+    rotated-too-far p q = rw (e, on, ← p, q)
 
     pub recycle-far : {t d c : Float} → t ≡ leastSquaredDot a b k → le t (s .recycleCosine) ≡ false → c ≡ toleranceFor s touching → d ≡ squaredMotion a b k → le (c ⊗ c) d ≡ true → false ≡ recycles s touching a b o
     unfolding recycles
     recycle-far p q x y z = rw (e, on, ← p, q, ← x, ← y, z)
 
-    pub recycle-swept : {t d c w r : Float} → t ≡ leastSquaredDot a b k → le t (s .recycleCosine) ≡ false → c ≡ toleranceFor s touching → d ≡ squaredMotion a b k → le (c ⊗ c) d ≡ false
+    pub arc-too-long : {t d c w r : Float} → t ≡ leastSquaredDot a b k → le t (s .recycleCosine) ≡ false → c ≡ toleranceFor s touching → d ≡ squaredMotion a b k → le (c ⊗ c) d ≡ false
         → w ≡ arc a b k → r ≡ root d → le (c ⊖ r) w ≡ true → false ≡ recycles s touching a b o
     unfolding recycles
-    recycle-swept p q x y z u v m = rw (e, on, ← p, q, ← x, ← y, z, ← u, ← v, m)
+    arc-too-long p q x y z u v m = rw (e, on, ← p, q, ← x, ← y, z, ← u, ← v, m)
 
     pub recycle-holds : {t d c w r : Float} → t ≡ leastSquaredDot a b k → le t (s .recycleCosine) ≡ false → c ≡ toleranceFor s touching → d ≡ squaredMotion a b k → le (c ⊗ c) d ≡ false
         → w ≡ arc a b k → r ≡ root d → le (c ⊖ r) w ≡ false → true ≡ recycles s touching a b o
@@ -42,11 +42,11 @@ module _ (s : Settings) (touching : Bool) (a b : Side) where
     recycle-holds p q x y z u v m = rw (e, on, ← p, q, ← x, ← y, z, ← u, ← v, m)
 
 -- NaN abandons nothing: no test holds of it
-pub nan-not-turned : (s : Settings) → rotatedTooFar s nan ≡ false
-nan-not-turned s = nan-le (s .recycleCosine)
+pub nan-not-rotated : (s : Settings) → rotatedTooFar s nan ≡ false
+nan-not-rotated s = nan-le (s .recycleCosine)
 
 pub nan-not-far : (tolerance : Float) → movedTooFar tolerance nan ≡ false
 nan-not-far tolerance = le-nan (tolerance ⊗ tolerance)
 
-pub nan-not-swept : (tolerance d2 : Float) → arcTooLong tolerance d2 nan ≡ false
-nan-not-swept tolerance d2 = le-nan (tolerance ⊖ root d2)
+pub nan-no-arc : (tolerance d2 : Float) → arcTooLong tolerance d2 nan ≡ false
+nan-no-arc tolerance d2 = le-nan (tolerance ⊖ root d2)

@@ -58,7 +58,7 @@ fn squared_motion(a: Side, b: Side, k: ContactRecyclingCache) -> f32
     relative.position.distance_squared(k.relative_translation)
 }
 
-fn swept_arc(a: Side, b: Side, k: ContactRecyclingCache) -> f32
+fn arc_length(a: Side, b: Side, k: ContactRecyclingCache) -> f32
     ensures { λ r. ⌜ r ≡ arc (plainSide a) (plainSide b) (cachedOf k) ⌝ }
 {
     let relative = a.pose.relative(b.pose);
@@ -85,7 +85,7 @@ pub fn recycle(s: Settings, touching: bool, a: Side, b: Side, cache: RecyclingCa
         if squared >= tolerance * tolerance {
             break 'recycle false;
         }
-        if swept_arc(a, b, k) >= tolerance - root(squared) {
+        if arc_length(a, b, k) >= tolerance - root(squared) {
             break 'recycle false;
         }
         break 'recycle true;

@@ -1,5 +1,6 @@
 pub mod Recorded
 pub mod Range
+pub mod Conditions
 pub mod PigeonholeLaws
 pub mod RangeLaws
 pub mod RangeShownLaws

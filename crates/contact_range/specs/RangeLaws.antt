@@ -17,6 +17,7 @@ use Rattle.layout.specs.Graph.{graphLength}
 use Rattle.layout.specs.Manifold.{manifoldSize}
 use Rattle.contact_range.specs.Recorded.{capacityOf, givenOf, listedCount, freeCount, listedAt, freeAt, contactAt}
 use Rattle.contact_range.specs.Range.{rightLength, optionalFits, namesFit, marksFit, manifoldsFit, contactFits, countsFit, listedGiven, namesBack, contactsFit, freeGiven, freeOnce, stands, isFree, freeApart, givenKnown, samePair, pairsOnce, InRange, inRange}
+use Rattle.contact_range.specs.Conditions.{RightLength, Counts}
 
 -- ---- tests
 pub holds : (b : Bool) → T b → b ≡ true
@@ -35,10 +36,6 @@ rest-of true b e = e
 rest-of false b e = absurd (true≢false (sym e))
 
 -- ---- refusal 1
-pub record RightLength (g : List ℕ) : Type 0 where
-  pub least : 0 < capacityOf g
-  pub most : capacityOf g ≤ mostContacts
-  pub size : length g ≡ graphLength (capacityOf g)
 
 pub right-length : {g : List ℕ} → rightLength g ≡ true → RightLength g
 unfolding rightLength
@@ -51,11 +48,6 @@ right-length {g} e =
       most = leb-true (capacityOf g) mostContacts (first-of b c (rest-of a (b && c) e));
       size = eqb-true (length g) (graphLength (capacityOf g)) (rest-of b c (rest-of a (b && c) e));
     }
-
--- the record of a contact begins at r, and lies in the graph
-pub record RecordAt (g : List ℕ) (id r : ℕ) : Type 0 where
-  pub place : r ≡ contactAt g id
-  pub room : r + contactSize ≤ length g
 
 -- ---- refusal 2, as one test and as a record
 pub in-range : {g : List ℕ} → T (inRange g) → InRange g
@@ -104,10 +96,6 @@ in-range-test {g} r =
     ) (r .pairs)
 
 -- ---- counts
-pub record Counts (g : List ℕ) : Type 0 where
-  pub given : givenOf g ≤ capacityOf g
-  pub listed : listedCount g ≤ capacityOf g
-  pub freed : freeCount g ≤ capacityOf g
 
 pub counts-fit : {g : List ℕ} → countsFit g ≡ true → Counts g
 unfolding countsFit

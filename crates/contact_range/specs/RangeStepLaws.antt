@@ -22,7 +22,8 @@ use Rattle.words.specs.Words.{wordAt}
 use Rattle.layout.specs.Contact.{contactPairIndex}
 use Rattle.contact_range.specs.Recorded.{capacityOf, listedCount, freeCount, listedAt, freeAt, contactAt}
 use Rattle.contact_range.specs.Range.{countsFit, listedGiven, namesBack, contactsFit, freeGiven, freeOnce, stands, isFree, freeApart, givenKnown, sameColliders, samePair, pairsOnce, inRange}
-use Rattle.contact_range.specs.RangeLaws.{holds, shown, first-of, rest-of, RightLength, RecordAt, Counts, counts-fit, indexAt, given-at, fits-at, stands-by-index, fitting}
+use Rattle.contact_range.specs.RangeLaws.{holds, shown, first-of, rest-of, counts-fit, indexAt, given-at, fits-at, stands-by-index, fitting}
+use Rattle.contact_range.specs.Conditions.{RightLength, RecordAt, Counts, ListedGiven, Standing, Unmarked, FreeTaken, listedFits, freeFits, pairNumber}
 
 -- ---- tests of what was read or asked, as a branch of the code gives them
 pub refused : {r t : Bool} → r ≡ t → not r ≡ true → t ≡ false
@@ -53,20 +54,6 @@ unfolding every
 every-none test = refl
 
 -- ---- what is known after the first conditions
--- lengths and counts
-pub record Counted (g : List ℕ) : Type 0 where
-  pub right : RightLength g
-  pub counts : Counts g
-
--- and the listed ids were given
-pub record ListedGiven (g : List ℕ) : Type 0 where
-  pub counted : Counted g
-  pub given : listedGiven g ≡ true
-
--- and name their places
-pub record Standing (g : List ℕ) : Type 0 where
-  pub listed : ListedGiven g
-  pub back : namesBack g ≡ true
 
 pub below-at : {g : List ℕ} (p : ℕ) → ListedGiven g → p < listedCount g → listedAt g p < capacityOf g
 below-at {g} p l h = omega (arith, given-at g p (l .given) h, l .counted .counts .given)
@@ -98,9 +85,6 @@ standing-read g id b p q h r = rw (stands-by-index g id b, lt-ltb (indexAt g id)
 -- ---- bits that mark what a row of numbers had
 pub record Marked (f : ℕ → ℕ) (k : ℕ) (bits : List ℕ) : Type 0 where
   pub each : (n : ℕ) → bitAt bits n ≡ any (λ j. eqb (f j) n) k
-
-pub record Unmarked (bits : List ℕ) : Type 0 where
-  pub each : (n : ℕ) → bitAt bits n ≡ false
 
 pub marked-none : (f : ℕ → ℕ) {bits : List ℕ} → Unmarked bits → Marked f 0 bits
 unfolding any
@@ -154,26 +138,12 @@ unfolding bitAt
 unmarked ws t = record { each = λ n. ap (λ (w : ℕ). bitOf w (n % 64)) (zero-at ws (n / 64) t) ∙ bit-zero (n % 64) }
 
 -- ---- free ids
--- the marks are the free ids
-pub record FreeTaken (g bits : List ℕ) : Type 0 where
-  pub each : (id : ℕ) → bitAt bits id ≡ isFree g id
-
--- what `free_once` leaves
-pub record FreeMarked (g bits : List ℕ) (r : Bool) : Type 0 where
-  pub answer : r ≡ freeOnce g
-  pub size : length bits ≡ 4
-  pub marks : r ≡ true → FreeTaken g bits
 
 pub free-taken : (g : List ℕ) {k : ℕ} {bits : List ℕ} → Marked (freeAt g) k bits → k ≡ freeCount g → FreeTaken g bits
 unfolding isFree
 free-taken g m e = record { each = λ id. m .each id ∙ ap (any (λ j. eqb (freeAt g j) id)) e }
 
 -- ---- the conditions in three parts: the list, the pairs, the free ids
-unfoldable pub listedFits : List ℕ → Bool
-listedFits g = countsFit g && (listedGiven g && (namesBack g && contactsFit g))
-
-unfoldable pub freeFits : List ℕ → Bool
-freeFits g = freeGiven g && (freeOnce g && (freeApart g && givenKnown g))
 
 pub in-range-parts : (g : List ℕ) → inRange g ≡ (listedFits g && (pairsOnce g && freeFits g))
 unfolding inRange listedFits freeFits
@@ -197,8 +167,6 @@ contacts-known g e =
     (rest-of (listedGiven g) (namesBack g && contactsFit g) (rest-of (countsFit g) (listedGiven g && (namesBack g && contactsFit g)) e))
 
 -- ---- pairs, by number: the lower collider times 256, and the higher
-abbrev pub pairNumber : ℕ → ℕ → ℕ
-pairNumber a b = cond (ltb a b) (a * 256 + b) (b * 256 + a)
 
 abbrev pub placeNumber : List ℕ → ℕ → ℕ
 placeNumber g p = pairNumber (wordAt g (contactAt g (listedAt g p))) (wordAt g (contactAt g (listedAt g p) + 1))

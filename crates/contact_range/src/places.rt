@@ -4,7 +4,7 @@ ghost use Prim.Native.Nat.{_<_};
 ghost use lib.ListN.{length};
 ghost use Rattle.words.specs.Words.{wordAt};
 ghost use Rattle.contact_range.specs.Recorded.{capacityOf, freeAt};
-ghost use Rattle.contact_range.specs.RangeLaws.{RightLength, RecordAt};
+ghost use Rattle.contact_range.specs.Conditions.{RightLength, RecordAt};
 use contact_types::contact_id::ContactId;
 use layout::contact::CONTACT_SIZE;
 use layout::graph::GRAPH_CAPACITY;

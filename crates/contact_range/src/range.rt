@@ -8,9 +8,8 @@ ghost use Rattle.layout.specs.Contact.{contactCollider2, contactSize};
 ghost use Rattle.rules.specs.Limits.{bodies, colliders};
 ghost use Rattle.contact_range.specs.Range.{rightLength, optionalFits, namesFit, marksFit, manifoldsFit, contactFits, countsFit, listedGiven, namesBack, contactsFit, freeGiven, stands, isFree, freeApart, givenKnown, pairsOnce, inRange};
 ghost use Rattle.contact_range.specs.Recorded.{givenOf};
-ghost use Rattle.contact_range.specs.RangeStepLaws.{Counted, ListedGiven, Standing, FreeTaken, Unmarked, FreeMarked, listedFits, freeFits, pairNumber};
+ghost use Rattle.contact_range.specs.Conditions.{RightLength, Counted, ListedGiven, Standing, FreeTaken, Unmarked, FreeMarked, listedFits, freeFits, pairNumber};
 ghost use Rattle.words.specs.Words.{wordAt};
-ghost use Rattle.contact_range.specs.RangeLaws.{RightLength};
 use crate::places::contact_at;
 use crate::places::free_at;
 use crate::places::id_at;
@@ -340,7 +339,10 @@ fn pair_number(graph: &[u32], at: usize) -> usize
     requires { ⌜ (at + contactSize ≤ length (now graph)) × (wordAt (now graph) at < colliders) × (wordAt (now graph) (at + contactCollider2) < colliders) ⌝ }
     ensures { λ r. ⌜ r ≡ pairNumber (wordAt (now (graph .entry)) at) (wordAt (now (graph .entry)) (at + 1)) ⌝ }
 {
-    let key = PairKey::new(load_word(graph, at), load_word(graph, at + CONTACT_COLLIDER2));
+    let key = PairKey::new(
+        load_word(graph, at),
+        load_word(graph, at + CONTACT_COLLIDER2),
+    );
     let ids = key.get();
     ids.lower as usize * COLLIDERS as usize + ids.higher as usize
 }

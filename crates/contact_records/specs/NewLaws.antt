@@ -16,13 +16,7 @@ use Rattle.manifold_records.specs.ListLaws.{padded-is}
 use Rattle.manifold_records.specs.Written.{zeros, padded, manifoldsWords}
 use Rattle.contact_records.specs.Fit.{FitPair}
 use Rattle.contact_records.specs.LengthLaws.{length-optional}
-use Rattle.contact_records.specs.Written.{optionalWords, intWord, flagsWords, cacheWords, namesWords, edgeWords, stateWords, contactWords}
-
--- colliders, bodies, the place in the list; the edge's marks; the pair's marks; count change and speculative distance
-unfoldable pub newContactWords : ℕ → Addition → List ℕ
-newContactWords index a =
-    a .collider1 ∷ a .collider2 ∷ optionalWords (a .body1) ++ optionalWords (a .body2)
-    ++ (index ∷ 0 ∷ markWord (a .contactEvents) ∷ 0 ∷ 0 ∷ 0 ∷ 0 ∷ 0 ∷ 0 ∷ 0 ∷ 0 ∷ markWord (a .modifyContacts) ∷ 0 ∷ floatWord (a .speculative) ∷ [])
+use Rattle.contact_records.specs.Written.{optionalWords, intWord, flagsWords, cacheWords, namesWords, edgeWords, stateWords, contactWords, newContactWords}
 
 pub zeros-add : (n m : ℕ) → zeros n ++ zeros m ≡ zeros (n + m)
 unfolding zeros

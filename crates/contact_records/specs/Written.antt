@@ -3,6 +3,7 @@ use Prim.Native.Nat.{ℕ, _-_, _^_}
 use mathlib.Core.List.{List, [], _∷_, _++_}
 use mathlib.Core.Option.{Option, none, some}
 use lib.IntN.{ℤ, pos, negsuc}
+use Rattle.rules.specs.Graph.{Addition}
 use Rattle.rules.specs.Records.{Cache, PairFlags, Names, EdgeFlags, Pair}
 use Rattle.words.specs.Words.{markWord, floatWord, vec3Words, quatWords}
 use Rattle.manifold_records.specs.Written.{zeros, manifoldsWords}
@@ -40,3 +41,9 @@ stateWords p = flagsWords (p .flags) ++ intWord (p .countChange) ∷ floatWord (
 -- the whole record
 unfoldable pub contactWords : ℕ → Pair → List ℕ
 contactWords index p = namesWords (p .names) index ++ edgeWords (p .edge) ++ stateWords p
+
+-- of a new contact, all before its cache: colliders, bodies, the place in the list; the edge's marks; the pair's marks; count change and speculative distance
+unfoldable pub newContactWords : ℕ → Addition → List ℕ
+newContactWords index a =
+    a .collider1 ∷ a .collider2 ∷ optionalWords (a .body1) ++ optionalWords (a .body2)
+    ++ (index ∷ 0 ∷ markWord (a .contactEvents) ∷ 0 ∷ 0 ∷ 0 ∷ 0 ∷ 0 ∷ 0 ∷ 0 ∷ 0 ∷ markWord (a .modifyContacts) ∷ 0 ∷ floatWord (a .speculative) ∷ [])

@@ -1,4 +1,4 @@
--- The claim about whole lists of additions and steps, `Demand3`. Definitions only; the theorem is `demand3` in Demand.antt.
+-- The claim about whole lists of additions and steps, `Demand3`. Definitions only; the theorem is `demand3` in DemandLaws.antt.
 --
 -- Each clause of the claim, and the field that says it:
 --   take any list of additions and steps, refused ones included, with any worker shares       `runs`: it has a run, on any words; `only`: it has no other

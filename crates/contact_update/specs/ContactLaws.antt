@@ -13,8 +13,9 @@ use Rattle.rules.specs.Limits.{mostContacts}
 use Rattle.layout.specs.Contact.{contactSize}
 use Rattle.layout.specs.Graph.{graphContacts}
 use Rattle.layout.specs.Proposal.{proposalSize}
-use Rattle.contact_range.specs.RangeLaws.{RecordAt, Fitting, standing-below, standing-fits}
+use Rattle.contact_range.specs.RangeLaws.{Fitting, standing-below, standing-fits}
 use Rattle.contact_range.specs.Recorded.{capacityOf, contactAt}
+use Rattle.contact_range.specs.Conditions.{RecordAt}
 use Rattle.proposals.specs.Range.{Proposed}
 use Rattle.contact_update.specs.After.{proposalOf, recordAfter, graphAfter}
 use Rattle.contact_update.specs.Contact.{ContactReady, updateOf, OwnUpdated}

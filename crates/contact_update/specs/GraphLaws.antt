@@ -33,11 +33,12 @@ use Rattle.contact_records.specs.HeldLaws.{Same, same-in, word-same, first-same
 use Rattle.contact_records.specs.Recorded.{namesAt, pairAt}
 use Rattle.contact_range.specs.Recorded.{capacityOf, givenOf, listedCount, freeCount, listedAt, freeAt, contactAt, graphOf}
 use Rattle.contact_range.specs.Range.{stands, isFree, sameColliders, samePair}
-use Rattle.contact_range.specs.RangeLaws.{RightLength, counts, Fitting, fitting, listed-given, listed-index, listed-fits, standing-fits, standing-below, free-given, free-once, free-not-standing, given-known, pair-once}
+use Rattle.contact_range.specs.RangeLaws.{counts, Fitting, fitting, listed-given, listed-index, listed-fits, standing-fits, standing-below, free-given, free-once, free-not-standing, given-known, pair-once}
 use Rattle.contact_range.specs.RangeShownLaws.{EachInRange, fitting-test, each-in-range}
 use Rattle.contact_range.specs.Checked.{Checked}
 use Rattle.contact_graph.specs.EffectLaws.{contact-after, contact-room, same-or-not, word-apart}
 use Rattle.contact_range.specs.FitsLaws.{fits-same}
+use Rattle.contact_range.specs.Conditions.{RightLength}
 use Rattle.contact_graph.specs.AddedGraphLaws.{right-kept, listedPair, listed-counted}
 use Rattle.contact_graph.specs.RemovedGraphLaws.{pair-id}
 use Rattle.contact_graph.specs.ImpulseLaws.{map-map}

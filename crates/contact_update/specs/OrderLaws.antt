@@ -14,8 +14,9 @@ use Rattle.layout.specs.Contact.{contactSize}
 use Rattle.layout.specs.Graph.{contactPlace, graphContacts}
 use Rattle.layout.specs.Proposal.{proposalSize}
 use Rattle.contact_graph.specs.AddedGraphLaws.{right-kept}
-use Rattle.contact_range.specs.RangeLaws.{RightLength, standing-below}
+use Rattle.contact_range.specs.RangeLaws.{standing-below}
 use Rattle.contact_range.specs.Recorded.{capacityOf, contactAt}
+use Rattle.contact_range.specs.Conditions.{RightLength}
 use Rattle.contact_update.specs.After.{graphAfter}
 use Rattle.contact_update.specs.Contact.{ContactReady, updateOf}
 use Rattle.contact_update.specs.GraphLaws.{change, change-keeps, graph-length, after-capacity, stands-kept}

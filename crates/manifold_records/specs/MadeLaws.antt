@@ -11,10 +11,6 @@ use Rattle.rules.specs.Records.{Point}
 use Rattle.words.specs.Words.{wordAt, floatAt, vec3At}
 use Rattle.manifold_records.specs.Recorded.{pointAt}
 
--- a vector, of its words
-abbrev pub vec3By : ℕ → ℕ → ℕ → Vec3
-vec3By x y z = record { x = ofBits binary32 x; y = ofBits binary32 y; z = ofBits binary32 z }
-
 pub point-made : (w : List ℕ) {a b c : Vec3} {s t u v m x y : Float}
     → a ≡ vec3At w 0 → b ≡ vec3At w 3 → c ≡ vec3At w 6 → s ≡ floatAt w 9 → t ≡ floatAt w 10 → u ≡ floatAt w 11 → v ≡ floatAt w 12 → m ≡ floatAt w 13 → x ≡ floatAt w 14 → y ≡ floatAt w 15
     → _≡_ {A = Point} (record { anchor1 = a; anchor2 = b; point = c; penetration = s; basePenetration = t; normalImpulse = u; normalSpeed = v; warmStartNormal = m; warmStartTangent = record { x = x; y = y }; feature1 = wordAt w 16; feature2 = wordAt w 17 }) (pointAt w 0)

@@ -2,12 +2,18 @@
 -- A list has as many elements as its count says.
 use Prim.Native.Nat.{ℕ, _+_, _*_}
 use mathlib.Core.List.{List, map}
+use lib.Ieee.{binary32, ofBits}
 use Rattle.math.specs.Vec.{vec2}
+use Rattle.math.specs.declared.vec.Vec3.{Vec3}
 use Rattle.rows.specs.Slots.{upto}
 use Rattle.rules.specs.Records.{Point, Manifold}
 use Rattle.words.specs.Words.{wordAt, floatAt, vec3At}
 use Rattle.layout.specs.Manifold.{manifoldFriction, manifoldPoints, manifoldRestitution, manifoldSize, manifoldTangentVelocity}
 use Rattle.layout.specs.Point.{pointAnchor2, pointBasePenetration, pointFeature2, pointFeatures, pointNormalImpulse, pointNormalSpeed, pointPenetration, pointPosition, pointSize, pointWarmStartNormalImpulse, pointWarmStartTangentImpulse, pointWarmStartTangentImpulseY}
+
+-- a vector, of its words
+abbrev pub vec3By : ℕ → ℕ → ℕ → Vec3
+vec3By x y z = record { x = ofBits binary32 x; y = ofBits binary32 y; z = ofBits binary32 z }
 
 unfoldable pub pointAt : List ℕ → ℕ → Point
 pointAt xs at =

@@ -3,7 +3,7 @@
 --
 -- Not here: 'Float leaves' is the crate `math` (⊕ ⊖ ⊗ ⊘ round once each); the table of refusals speaks of words, and stands with each call
 -- (contact_graph: Calls, contact_types: Prune, step: Step), and for the plain run in contact_runs: Refusals; workers and their bit words are in shares and update_pass; 'Prune listing' is in prune_listing and prune_answer;
--- theorems about these definitions are in rule_laws, the eleven proved cases among them (Cases).
+-- theorems about these definitions are in rule_laws, the eleven proved cases among them (CaseLaws).
 
 -- 'The door': the limits that the table names; what a step takes; pairs, edges, manifolds and points as the Rust records them
 pub mod Limits

@@ -8,8 +8,9 @@ use lib.ListN.{length}
 use Rattle.contact_graph.specs.CallLaws.{checked}
 use Rattle.contact_range.specs.Checked.{Checked}
 use Rattle.contact_range.specs.Range.{rightLength}
-use Rattle.contact_range.specs.RangeLaws.{RightLength, right-length, counts, listed-below}
+use Rattle.contact_range.specs.RangeLaws.{right-length, counts, listed-below}
 use Rattle.contact_range.specs.Recorded.{capacityOf, listedCount, listedAt}
+use Rattle.contact_range.specs.Conditions.{RightLength}
 
 -- the first test fails, or holds and the rest decides
 pub first-fails : {a : Bool} (b : Bool) → a ≡ false → false ≡ a && b

@@ -1,6 +1,6 @@
 -- `collider::range::body_number_fits` meets its contract. Assumes nothing.
 use borrow.Author.Needs.{needs}
-use Rattle.collider.specs.RangeStepLaws.{bodyNumberFits}
+use Rattle.collider.specs.Range.{bodyNumberFits}
 use Rattle.collider.proofs.range.body_number_fits.Statement.{statement}
 use Rattle.collider.proofs.range.body_number_fits.Tie as tie
 

@@ -1,7 +1,7 @@
 -- `collider::range::collider_values_fit` meets its contract. Assumes nothing.
 use borrow.Author.Needs.{needs}
-use Rattle.collider.specs.RangeStepLaws.{colliderValuesFit}
 use Rattle.collider.specs.TestLaws.{passes, fails}
+use Rattle.collider.specs.Range.{colliderValuesFit}
 use Rattle.collider.proofs.range.collider_values_fit.Statement.{statement}
 use Rattle.collider.proofs.range.collider_values_fit.Tie as tie
 

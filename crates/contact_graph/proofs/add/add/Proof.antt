@@ -5,8 +5,9 @@ use borrow.Author.Needs.{needs}
 use borrow.Author.Tests.{eqb-true, eqb-false}
 use Rattle.contact_graph.specs.AddLaws.{refused-length, refused-range, refused-request, refused-same, refused-stands, refused-full, add-kept}
 use Rattle.contact_graph.specs.CallLaws.{checked}
-use Rattle.contact_range.specs.RangeLaws.{Counts, counts}
+use Rattle.contact_range.specs.RangeLaws.{counts}
 use Rattle.contact_range.specs.RangeStepLaws.{refused, passed}
+use Rattle.contact_range.specs.Conditions.{Counts}
 use Rattle.contact_graph.proofs.add.add.Statement.{statement}
 use Rattle.contact_graph.proofs.add.add.Tie as tie
 

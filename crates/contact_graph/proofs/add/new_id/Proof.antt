@@ -6,7 +6,8 @@ use borrow.Author.Needs.{needs}
 use borrow.Author.Tests.{eq-eqb, ne-eqb}
 use Rattle.contact_graph.specs.Calls.{newIdOf}
 use Rattle.contact_range.specs.Recorded.{freeAt}
-use Rattle.contact_range.specs.RangeLaws.{Counts, counts}
+use Rattle.contact_range.specs.RangeLaws.{counts}
+use Rattle.contact_range.specs.Conditions.{Counts}
 use Rattle.contact_graph.proofs.add.new_id.Statement.{statement}
 use Rattle.contact_graph.proofs.add.new_id.Tie as tie
 

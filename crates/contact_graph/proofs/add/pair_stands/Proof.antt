@@ -12,8 +12,9 @@ use Rattle.rule_laws.specs.NumberLaws.{any-next, any-at, any-none}
 use Rattle.words.specs.Words.{wordAt}
 use Rattle.contact_graph.specs.Calls.{pairStands}
 use Rattle.contact_range.specs.Range.{sameColliders}
-use Rattle.contact_range.specs.RangeLaws.{Counts, counts, listed-below}
+use Rattle.contact_range.specs.RangeLaws.{counts, listed-below}
 use Rattle.contact_range.specs.Recorded.{listedCount, listedAt, contactAt}
+use Rattle.contact_range.specs.Conditions.{Counts}
 use Rattle.contact_graph.proofs.add.pair_stands.Statement.{statement}
 use Rattle.contact_graph.proofs.add.pair_stands.Tie as tie
 

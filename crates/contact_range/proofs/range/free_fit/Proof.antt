@@ -1,7 +1,8 @@
 -- `contact_range::range::free_fit` meets its contract: each test in its turn, and what it shows for the later ones. Assumes nothing.
 use mathlib.Core.Path.{refl}
 use borrow.Author.Tests.{not-false}
-use Rattle.contact_range.specs.RangeStepLaws.{refused, passed, allZero, unmarked, freeFits}
+use Rattle.contact_range.specs.RangeStepLaws.{refused, passed, allZero, unmarked}
+use Rattle.contact_range.specs.Conditions.{freeFits}
 use borrow.Author.Needs.{needs}
 use Rattle.contact_range.proofs.range.free_fit.Statement.{statement}
 use Rattle.contact_range.proofs.range.free_fit.Tie as tie

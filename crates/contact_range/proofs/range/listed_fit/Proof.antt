@@ -1,6 +1,7 @@
 -- `contact_range::range::listed_fit` meets its contract: each test in its turn, and what it shows for the later ones. Assumes nothing.
-use Rattle.contact_range.specs.RangeStepLaws.{refused, passed, listedFits}
+use Rattle.contact_range.specs.RangeStepLaws.{refused, passed}
 use Rattle.contact_range.specs.RangeLaws.{counts-fit}
+use Rattle.contact_range.specs.Conditions.{listedFits}
 use borrow.Author.Needs.{needs}
 use Rattle.contact_range.proofs.range.listed_fit.Statement.{statement}
 use Rattle.contact_range.proofs.range.listed_fit.Tie as tie

@@ -2,7 +2,8 @@
 use mathlib.Core.Path.{ap, _∙_}
 use borrow.Author.Needs.{needs}
 use Rattle.data_structures.specs.PairKey.{idsOf}
-use Rattle.contact_range.specs.RangeStepLaws.{pairNumber, number-of-ids}
+use Rattle.contact_range.specs.RangeStepLaws.{number-of-ids}
+use Rattle.contact_range.specs.Conditions.{pairNumber}
 use Rattle.contact_range.proofs.range.pair_number.Statement.{statement}
 use Rattle.contact_range.proofs.range.pair_number.Tie as tie
 
