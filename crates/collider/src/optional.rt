@@ -23,7 +23,7 @@ pub enum OptionalFloat {
     Absent,
 }
 
-// The body that a collider is attached to: `ColliderOf`.
+// The body that a collider is attached to (`ColliderOf`), or that a contact names.
 pub enum OptionalBody {
     Named(u32),
     Unnamed,

@@ -26,7 +26,8 @@ use Rattle.contact_types.specs.declared.prune.PruneAnswer.the-variants as prune
 use Rattle.contact_types.specs.declared.pruning.KeptPoints.{KeptPoints}
 use Rattle.contact_types.specs.declared.refusal.Refusal.{Refusal}
 use Rattle.contact_graph.specs.Calls.{layOutRefusal, addRefusal, newIdOf, idRefusal}
-use Rattle.contact_graph.specs.LookUp.{bodyOf, edgeValue, edgeOf}
+use Rattle.collider.specs.Views.{plainNumberIf}
+use Rattle.contact_graph.specs.LookUp.{edgeValue, edgeOf}
 use Rattle.contact_graph.specs.Promises as graph
 use Rattle.contact_graph.specs.Promises.{LaidOut, Added, Removed, LookedUp, layOutAnswer, addAnswer, removeAnswer, lookUpAnswer}
 use Rattle.contact_graph.specs.declared.add.AddAnswer.{AddAnswer}
@@ -115,16 +116,16 @@ unfolding optionalWords
 optional-words none ws = refl
 optional-words (some n) ws = refl
 
-pub edge-words : (e : ContactEdge) {b1 b2 : List ℕ} {t v : ℕ} → b1 ≡ optionalWords (bodyOf (e .body1)) → b2 ≡ optionalWords (bodyOf (e .body2)) → t ≡ markWord (e .touching) → v ≡ markWord (e .«contact_events»)
+pub edge-words : (e : ContactEdge) {b1 b2 : List ℕ} {t v : ℕ} → b1 ≡ optionalWords (plainNumberIf (e .body1)) → b2 ≡ optionalWords (plainNumberIf (e .body2)) → t ≡ markWord (e .touching) → v ≡ markWord (e .«contact_events»)
     → e .id .0 ∷ e .collider1 ∷ e .collider2 ∷ getD b1 0 0 ∷ getD b1 1 0 ∷ getD b2 0 0 ∷ getD b2 1 0 ∷ e .«pair_index» ∷ t ∷ v ∷ [] ≡ edgeWords (edgeValue e)
 unfolding edgeWords edgeValue
 edge-words e p q s u =
-    let one = optionalWords (bodyOf (e .body1)) in
-    let two = optionalWords (bodyOf (e .body2)) in
+    let one = optionalWords (plainNumberIf (e .body1)) in
+    let two = optionalWords (plainNumberIf (e .body2)) in
     let rest : List ℕ = e .«pair_index» ∷ markWord (e .touching) ∷ markWord (e .«contact_events») ∷ [] in
     rw (p, q, s, u)
     (ap (λ (ws : List ℕ). e .id .0 ∷ e .collider1 ∷ e .collider2 ∷ ws)
-    (optional-words (bodyOf (e .body1)) (getD two 0 0 ∷ getD two 1 0 ∷ rest) ∙ ap (λ (ws : List ℕ). one ++ ws) (optional-words (bodyOf (e .body2)) rest)))
+    (optional-words (plainNumberIf (e .body1)) (getD two 0 0 ∷ getD two 1 0 ∷ rest) ∙ ap (λ (ws : List ℕ). one ++ ws) (optional-words (plainNumberIf (e .body2)) rest)))
 
 abbrev wordsIn : graph.EdgeAnswer → List ℕ
 wordsIn (graph.refusedEdge n) = []

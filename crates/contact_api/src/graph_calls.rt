@@ -2,14 +2,15 @@
 ghost use mathlib.Core.Path.{_≡_};
 ghost use lib.ListN.{length};
 ghost use Rattle.contact_records.specs.Written.{optionalWords};
-ghost use Rattle.contact_graph.specs.LookUp.{bodyOf, edgeValue};
+ghost use Rattle.collider.specs.Views.{plainNumberIf};
+ghost use Rattle.contact_graph.specs.LookUp.{edgeValue};
 ghost use Rattle.contact_graph.specs.Promises.{layOutAnswer, removeAnswer};
 ghost use Rattle.contact_api.specs.Calls.{doneNumber, requestOf, edgeWords, LayOutCalled, AddCalled, LookUpCalled, RemoveCalled};
 ghost use Rattle.layout.specs.Request.{requestLength};
+use collider::optional::OptionalBody;
 use contact_graph::add::AddAnswer;
 use contact_graph::add::add;
 use contact_graph::call::ContactEdge;
-use contact_graph::call::OptionalBody;
 use contact_graph::call::Request;
 use contact_graph::lay_out::LayOutAnswer;
 use contact_graph::lay_out::lay_out;
@@ -93,11 +94,11 @@ pub extern "C" fn sardinerod_add(graph: &mut [u32], request: &[u32], answer: &mu
 
 // A body's mark and its number, 0 and 0 where there is none.
 fn body_words(b: OptionalBody) -> [u32; 2]
-    ensures { λ r. ⌜ r ≡ optionalWords (bodyOf b) ⌝ }
+    ensures { λ r. ⌜ r ≡ optionalWords (plainNumberIf b) ⌝ }
 {
     match b {
-        OptionalBody::Body(n) => [1, n],
-        OptionalBody::None => [0, 0],
+        OptionalBody::Named(n) => [1, n],
+        OptionalBody::Unnamed => [0, 0],
     }
 }
 

@@ -21,7 +21,7 @@ use Rattle.contact_range.specs.Recorded.{capacityOf, givenOf, listedCount, free
 use Rattle.contact_range.specs.Range.{isMark, sameColliders, rightLength, inRange, stands}
 use Rattle.contact_graph.specs.declared.call.Request.{Request}
 use Rattle.contact_graph.specs.declared.call.ContactEdge.{ContactEdge}
-use Rattle.contact_graph.specs.declared.call.OptionalBody.the-variants as body
+use Rattle.collider.specs.declared.optional.OptionalBody.the-variants as body
 
 -- ---- lay out
 -- 1: the capacity is not 1 to 256, or the length is not the one for it
@@ -70,8 +70,8 @@ newEdge a b =
       id = record { 0 = 0xffff_ffff };
       collider1 = a;
       collider2 = b;
-      body1 = body.None;
-      body2 = body.None;
+      body1 = body.Unnamed;
+      body2 = body.Unnamed;
       «pair_index» = 0;
       touching = false;
       «contact_events» = false;

@@ -13,14 +13,15 @@ use Rattle.contact_types.specs.declared.refusal.Refusal.the-variants.{WrongLeng
 use Rattle.layout.specs.Graph.{graphLength}
 use Rattle.contact_range.specs.Range.{rightLength, inRange, stands}
 use Rattle.contact_range.specs.Recorded.{capacityOf, listedCount}
+use Rattle.collider.specs.Views.{plainNumberIf}
 use Rattle.contact_graph.specs.Calls.{layOutRefusal, laidOut, requestFits, pairStands, addRefusal, newIdOf, addedWords, idRefusal, removedWords}
-use Rattle.contact_graph.specs.LookUp.{Edge, bodyOf, edgeValue, edgeOf}
+use Rattle.contact_graph.specs.LookUp.{Edge, edgeValue, edgeOf}
 use Rattle.contact_graph.specs.Promises.{Answer, refused, done, layOutAnswer, LaidOut, removeAnswer, Removed, EdgeAnswer, refusedEdge, found, lookUpAnswer, LookedUp, IdAnswer, refusedId, added, addAnswer, Added}
 use Rattle.contact_graph.specs.declared.add.AddAnswer.{AddAnswer}
 use Rattle.contact_graph.specs.declared.add.AddAnswer.the-variants as add
 use Rattle.contact_graph.specs.declared.call.ContactEdge.{ContactEdge}
-use Rattle.contact_graph.specs.declared.call.OptionalBody.{OptionalBody}
-use Rattle.contact_graph.specs.declared.call.OptionalBody.the-variants as body
+use Rattle.collider.specs.declared.optional.OptionalBody.{OptionalBody}
+use Rattle.collider.specs.declared.optional.OptionalBody.the-variants as body
 use Rattle.contact_graph.specs.declared.call.Request.{Request}
 use Rattle.contact_graph.specs.declared.lay_out.LayOutAnswer.{LayOutAnswer}
 use Rattle.contact_graph.specs.declared.lay_out.LayOutAnswer.the-variants as lay-out
@@ -86,14 +87,14 @@ add-answered before a =
 
 -- ---- look up
 abbrev optionalBody : Option ℕ → OptionalBody
-optionalBody none = body.None
-optionalBody (some n) = body.Body n
+optionalBody none = body.Unnamed
+optionalBody (some n) = body.Named n
 
-optional-body : (b : OptionalBody) → optionalBody (bodyOf b) ≡ b
-optional-body (body.Body n) = refl
-optional-body body.None = refl
+optional-body : (b : OptionalBody) → optionalBody (plainNumberIf b) ≡ b
+optional-body (body.Named n) = refl
+optional-body body.Unnamed = refl
 
-body-optional : (o : Option ℕ) → bodyOf (optionalBody o) ≡ o
+body-optional : (o : Option ℕ) → plainNumberIf (optionalBody o) ≡ o
 body-optional none = refl
 body-optional (some n) = refl
 

@@ -8,9 +8,8 @@ use Rattle.words.specs.Words.{wordAt}
 use Rattle.layout.specs.Contact.{contactEdgeFlags, contactPairIndex}
 use Rattle.contact_records.specs.Recorded.{namesAt, edgeAt}
 use Rattle.contact_range.specs.Recorded.{contactAt}
+use Rattle.collider.specs.Views.{plainNumberIf}
 use Rattle.contact_graph.specs.declared.call.ContactEdge.{ContactEdge}
-use Rattle.contact_graph.specs.declared.call.OptionalBody.{OptionalBody}
-use Rattle.contact_graph.specs.declared.call.OptionalBody.the-variants as body
 
 -- ContactEdge
 pub record Edge : Type 0 where
@@ -19,15 +18,11 @@ pub record Edge : Type 0 where
   -- the pair's place in the list
   pub index : ℕ
 
-abbrev pub bodyOf : OptionalBody → Option ℕ
-bodyOf (body.Body n) = some n
-bodyOf body.None = none
-
 -- the code's edge as a plain value
 unfoldable pub edgeValue : ContactEdge → Edge
 edgeValue e =
     record {
-      names = record { id = e .id .0; collider1 = e .collider1; collider2 = e .collider2; body1 = bodyOf (e .body1); body2 = bodyOf (e .body2) };
+      names = record { id = e .id .0; collider1 = e .collider1; collider2 = e .collider2; body1 = plainNumberIf (e .body1); body2 = plainNumberIf (e .body2) };
       marks = record { touching = e .touching; contactEvents = e .«contact_events» };
       index = e .«pair_index»;
     }

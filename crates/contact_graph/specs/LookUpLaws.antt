@@ -8,21 +8,23 @@ use lib.Dec.{eqb}
 use Rattle.contact_types.specs.declared.refusal.Refusal.the-variants.{WrongLength, OutOfRange, NoContact}
 use Rattle.words.specs.Words.{wordAt}
 use Rattle.contact_records.specs.Recorded.{optionalAt, namesAt, edgeAt}
+use Rattle.collider.specs.Recorded.{numberIfAt}
+use Rattle.collider.specs.Views.{plainNumberIf}
 use Rattle.contact_graph.specs.CallLaws.{id-length, id-range, id-none, id-found}
-use Rattle.contact_graph.specs.LookUp.{bodyOf, edgeValue, edgeIn, EdgeLoaded, edgeOf}
+use Rattle.contact_graph.specs.LookUp.{edgeValue, edgeIn, EdgeLoaded, edgeOf}
 use Rattle.contact_graph.specs.Promises.{LookedUp, found}
 use Rattle.contact_types.specs.declared.contact_id.ContactId.{ContactId}
 use Rattle.contact_range.specs.Range.{rightLength, inRange, stands}
 use Rattle.contact_range.specs.Recorded.{contactAt}
 use Rattle.contact_graph.specs.declared.call.ContactEdge.{ContactEdge}
-use Rattle.contact_graph.specs.declared.call.OptionalBody.{OptionalBody}
+use Rattle.collider.specs.declared.optional.OptionalBody.{OptionalBody}
 use Rattle.contact_graph.specs.declared.look_up.LookUpAnswer.the-variants.{Found, Refused}
 
 pub edge-made : (g : List ℕ) (at : ℕ) (id : ContactId) {c1 c2 n : ℕ} {b1 b2 : OptionalBody} {t e : Bool}
-    → c1 ≡ wordAt g at → c2 ≡ wordAt g (at + 1) → bodyOf b1 ≡ optionalAt g (at + 2) → bodyOf b2 ≡ optionalAt g (at + 4) → n ≡ wordAt g (at + 6)
+    → c1 ≡ wordAt g at → c2 ≡ wordAt g (at + 1) → plainNumberIf b1 ≡ numberIfAt g (at + 2) → plainNumberIf b2 ≡ numberIfAt g (at + 4) → n ≡ wordAt g (at + 6)
     → t ≡ eqb (wordAt g (at + 7)) 1 → e ≡ eqb (wordAt g (at + 7 + 1)) 1
     → EdgeLoaded g at (id .0) (record { id = id; collider1 = c1; collider2 = c2; body1 = b1; body2 = b2; «pair_index» = n; touching = t; «contact_events» = e })
-unfolding edgeValue edgeIn namesAt edgeAt
+unfolding edgeValue edgeIn namesAt edgeAt numberIfAt
 edge-made g at id a b c d n t e =
     record {
       edge = λ i. record {

@@ -3,6 +3,7 @@ ghost use mathlib.Core.Path.{_≡_};
 ghost use Rattle.contact_graph.specs.Calls.{newEdge};
 ghost use Rattle.contact_range.specs.Range.{stands};
 ghost use Rattle.contact_range.specs.Checked.{Checked};
+use collider::optional::OptionalBody;
 use contact_range::places::number_at;
 use contact_range::range::is_standing;
 use contact_types::contact_id::ContactId;
@@ -19,12 +20,6 @@ pub struct Request {
     pub contact_events: u32,
     pub modify_contacts: u32,
     pub speculative_distance: f32,
-}
-
-// A body, or none.
-pub enum OptionalBody {
-    Body(u32),
-    None,
 }
 
 // The edge of a contact, by value.
@@ -48,8 +43,8 @@ impl ContactEdge {
             id: ContactId::PLACEHOLDER,
             collider1,
             collider2,
-            body1: OptionalBody::None,
-            body2: OptionalBody::None,
+            body1: OptionalBody::Unnamed,
+            body2: OptionalBody::Unnamed,
             pair_index: 0,
             touching: false,
             contact_events: false,

@@ -2,18 +2,16 @@
 ghost use mathlib.Core.Path.{_≡_};
 ghost use mathlib.Core.Bool.{true};
 ghost use lib.ListN.{length};
-ghost use lib.Dec.{eqb};
 ghost use Prim.Native.Nat.{_+_, _≤_, _<_};
-ghost use Rattle.words.specs.Words.{wordAt};
 ghost use Rattle.layout.specs.Contact.{contactSize};
-ghost use Rattle.contact_records.specs.Recorded.{optionalAt};
 ghost use Rattle.contact_range.specs.Checked.{Checked};
-ghost use Rattle.contact_graph.specs.LookUp.{bodyOf, EdgeLoaded};
+ghost use Rattle.contact_graph.specs.LookUp.{EdgeLoaded};
 ghost use Rattle.contact_graph.specs.Promises.{LookedUp};
 ghost use Rattle.contact_range.specs.Range.{stands};
 use crate::call::ContactEdge;
-use crate::call::OptionalBody;
 use crate::call::has_contact;
+use collider::optional::load_body_if;
+use collider::optional::load_mark;
 use contact_range::places::contact_at;
 use contact_range::range::in_range;
 use contact_range::range::right_length;
@@ -31,24 +29,6 @@ pub enum LookUpAnswer {
     Refused(Refusal),
 }
 
-fn load_body(graph: &[u32], at: usize) -> OptionalBody
-    requires { ⌜ at + 2 ≤ length (now graph) ⌝ }
-    ensures { λ r. ⌜ bodyOf r ≡ optionalAt (now (graph .entry)) at ⌝ }
-{
-    if load_word(graph, at) == 1 {
-        OptionalBody::Body(load_word(graph, at + 1))
-    } else {
-        OptionalBody::None
-    }
-}
-
-fn load_mark(graph: &[u32], at: usize) -> bool
-    requires { ⌜ at < length (now graph) ⌝ }
-    ensures { λ r. ⌜ r ≡ eqb (wordAt (now (graph .entry)) at) 1 ⌝ }
-{
-    load_word(graph, at) == 1
-}
-
 // The edge of a contact whose record begins at that place.
 fn load_edge(graph: &[u32], at: usize, id: ContactId) -> ContactEdge
     requires { ⌜ at + contactSize ≤ length (now graph) ⌝ }
@@ -58,8 +38,8 @@ fn load_edge(graph: &[u32], at: usize, id: ContactId) -> ContactEdge
         id,
         collider1: load_word(graph, at),
         collider2: load_word(graph, at + CONTACT_COLLIDER2),
-        body1: load_body(graph, at + CONTACT_BODY1),
-        body2: load_body(graph, at + CONTACT_BODY2),
+        body1: load_body_if(graph, at + CONTACT_BODY1),
+        body2: load_body_if(graph, at + CONTACT_BODY2),
         pair_index: load_word(graph, at + CONTACT_PAIR_INDEX),
         touching: load_mark(graph, at + CONTACT_EDGE_FLAGS),
         contact_events: load_mark(graph, at + CONTACT_EDGE_FLAGS + 1),

@@ -8,7 +8,7 @@ returns : tie.Need-returns
 returns c =
     let a = c .before .before in
     let b = a .before .before .before in
-    edge-made _ _ _ (b .before .load-word .ensures) (b .load-word2 .ensures) (a .before .before .load-body .ensures) (a .before .load-body2 .ensures) (a .load-word3 .ensures) (c .before .load-mark .ensures)
+    edge-made _ _ _ (b .before .load-word .ensures) (b .load-word2 .ensures) (a .before .before .load-body-if .ensures) (a .before .load-body-if2 .ensures) (a .load-word3 .ensures) (c .before .load-mark .ensures)
     (c .load-mark2 .ensures)
 
 pub load-edge-spec : {M : Type 1} → statement M
