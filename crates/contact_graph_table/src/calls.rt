@@ -2,6 +2,8 @@
 use crate::draws::draw;
 use crate::draws::id;
 use crate::draws::request;
+use crate::recorded::CAPACITY;
+use crate::recorded::GRAPH_LENGTH;
 use crate::recorded::print_recorded;
 use case_draws::line::print_count;
 use case_draws::line::print_end;
@@ -139,13 +141,13 @@ fn print_calls(graph: &mut [u32]) {
 
 fn print_start(graph: &mut [u32]) {
     print_name(b"lay_out\t8");
-    print_laid_out(lay_out(graph, 8));
+    print_laid_out(lay_out(graph, CAPACITY));
     print_recorded(graph);
     print_end();
 }
 
 pub fn print_graph() {
-    let mut graph = [0u32; 4204];
+    let mut graph = [0u32; GRAPH_LENGTH];
     print_start(&mut graph);
     print_calls(&mut graph);
 }
