@@ -4,6 +4,7 @@ use crate::graph::change;
 use crate::graph::fill;
 use crate::graph::request;
 use crate::graph::same;
+use crate::places::GRAPH_LENGTH;
 use case_draws::line::print_count;
 use case_draws::line::print_end;
 use case_draws::line::print_name;
@@ -65,8 +66,8 @@ fn damage(graph: &mut [u32], words: &[u32], from: u32, end: u32) {
 
 // Changed by `words`, and filled from a place on as far as another.
 pub fn print_filled(name: &[u8], words: &[u32], from: u32, end: u32) {
-    let mut graph = [0u32; 2104];
-    let mut before = [0u32; 2104];
+    let mut graph = [0u32; GRAPH_LENGTH];
+    let mut before = [0u32; GRAPH_LENGTH];
     damage(&mut graph, words, from, end);
     damage(&mut before, words, from, end);
     print_name(name);
