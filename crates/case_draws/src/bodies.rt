@@ -6,6 +6,16 @@ use crate::draws::one_in;
 use crate::draws::past;
 use crate::draws::slot;
 use crate::draws::style;
+use crate::numbers::BODY_CENTER_OF_MASS;
+use crate::numbers::BODY_FRICTION;
+use crate::numbers::BODY_LINEAR_VELOCITY;
+use crate::numbers::BODY_MARGIN;
+use crate::numbers::BODY_POSITION;
+use crate::numbers::BODY_PRESENT;
+use crate::numbers::BODY_ROTATION;
+use crate::numbers::BODY_SPECULATIVE_MAXIMUM;
+use crate::numbers::BODY_STATIC;
+use crate::numbers::BODY_SWEEP_RADIUS;
 use crate::settings::coefficient_word;
 use crate::settings::margin_word;
 
@@ -86,15 +96,15 @@ const RADII: [u32; 16] = [
 ];
 
 // Neither body is there.
-fn lone(case: u32) -> bool {
+fn no_bodies(case: u32) -> bool {
     draw(case, 4) % 24 == 0
 }
 
 fn presence(case: u32, owner: u32) -> u32 {
-    if lone(case) {
+    if no_bodies(case) {
         0
     } else {
-        all_but_one_in(owner, 0, 16)
+        all_but_one_in(owner, BODY_PRESENT, 16)
     }
 }
 
@@ -104,11 +114,11 @@ pub fn rotation(owner: u32, slot: u32, j: u32) -> u32 {
 
 fn rotation_word(owner: u32, i: u32, style: u32) -> u32 {
     if style == 2 {
-        if draw(owner, 5) % 8 == 0 {
+        if draw(owner, BODY_ROTATION) % 8 == 0 {
             return float(owner, slot(40, i), 2);
         }
     }
-    rotation(owner, 5, past(i, 5))
+    rotation(owner, BODY_ROTATION, past(i, BODY_ROTATION))
 }
 
 // Half of the centres of mass are 0.
@@ -123,8 +133,8 @@ fn centre_word(owner: u32, i: u32, style: u32) -> u32 {
 // Position, rotation, centre of mass, velocities.
 fn motion_word(owner: u32, i: u32, style: u32) -> u32 {
     match i {
-        5..=8 => rotation_word(owner, i, style),
-        9..=11 => centre_word(owner, i, style),
+        BODY_ROTATION..BODY_CENTER_OF_MASS => rotation_word(owner, i, style),
+        BODY_CENTER_OF_MASS..BODY_LINEAR_VELOCITY => centre_word(owner, i, style),
         _ => float(owner, i, style),
     }
 }
@@ -132,13 +142,21 @@ fn motion_word(owner: u32, i: u32, style: u32) -> u32 {
 pub fn body_word(case: u32, n: u32, i: u32) -> u32 {
     let owner = draw(case, slot(20, n));
     match i {
-        0 => presence(case, owner),
-        1 => one_in(owner, 1, 4),
-        2..=17 => motion_word(owner, i, style(case)),
-        18..=20 => coefficient_word(owner, 18, past(i, 18)),
-        21 | 22 => margin_word(owner, 21, past(i, 21)),
-        23 => one_in(owner, 23, 2),
-        24 => MAXIMA[(draw(owner, 24) % 16) as usize],
-        _ => RADII[(draw(owner, 25) % 16) as usize],
+        BODY_PRESENT => presence(case, owner),
+        BODY_STATIC => one_in(owner, i, 4),
+        BODY_POSITION..BODY_FRICTION => motion_word(owner, i, style(case)),
+        BODY_FRICTION..BODY_MARGIN => coefficient_word(
+            owner,
+            BODY_FRICTION,
+            past(i, BODY_FRICTION),
+        ),
+        BODY_MARGIN..BODY_SPECULATIVE_MAXIMUM => margin_word(
+            owner,
+            BODY_MARGIN,
+            past(i, BODY_MARGIN),
+        ),
+        BODY_SPECULATIVE_MAXIMUM => one_in(owner, i, 2),
+        BODY_SPECULATIVE_MAXIMUM..BODY_SWEEP_RADIUS => MAXIMA[(draw(owner, i) % 16) as usize],
+        _ => RADII[(draw(owner, BODY_SWEEP_RADIUS) % 16) as usize],
     }
 }

@@ -7,8 +7,21 @@ use crate::draws::one_in;
 use crate::draws::past;
 use crate::draws::slot;
 use crate::draws::style;
+use crate::numbers::BODY_POSITION;
+use crate::numbers::COLLIDER_BODY;
+use crate::numbers::COLLIDER_BODY_NUMBER;
+use crate::numbers::COLLIDER_FRICTION;
+use crate::numbers::COLLIDER_LOWER;
+use crate::numbers::COLLIDER_MARGIN;
+use crate::numbers::COLLIDER_MEMBERSHIPS;
+use crate::numbers::COLLIDER_POSITION;
+use crate::numbers::COLLIDER_PRESENT;
+use crate::numbers::COLLIDER_RESTITUTION;
+use crate::numbers::COLLIDER_SENSOR;
+use crate::numbers::COLLIDER_UPPER;
 use crate::settings::coefficient_word;
 use crate::settings::margin_word;
+use layout::limits::BODIES;
 
 // Lower and upper ends on an axis: apart by 1.5, by 1, touching on either side, apart by 1.25, NaN, infinite, lower above upper.
 const LOWER: [u32; 8] = [
@@ -46,9 +59,11 @@ const FILTERS: [u32; 8] = [
     0xffff_fffe,
 ];
 
+const LAST_BODY: u32 = BODIES - 1;
+
 // From -1 to 1 on most axes.
 fn lower_word(owner: u32, axis: u32) -> u32 {
-    let d = draw(owner, slot(3, axis)) % 160;
+    let d = draw(owner, slot(COLLIDER_LOWER, axis)) % 160;
     if d < 8 {
         LOWER[d as usize]
     } else {
@@ -57,7 +72,7 @@ fn lower_word(owner: u32, axis: u32) -> u32 {
 }
 
 fn upper_word(owner: u32, axis: u32) -> u32 {
-    let d = draw(owner, slot(3, axis)) % 160;
+    let d = draw(owner, slot(COLLIDER_LOWER, axis)) % 160;
     if d < 8 {
         UPPER[d as usize]
     } else {
@@ -71,7 +86,7 @@ fn layers_word(owner: u32, i: u32) -> u32 {
     if d % 64 == 0 {
         return 0;
     }
-    if i == 12 {
+    if i == COLLIDER_MEMBERSHIPS {
         MEMBERSHIPS[(d / 64 % 8) as usize]
     } else {
         FILTERS[(d / 64 % 8) as usize]
@@ -80,12 +95,12 @@ fn layers_word(owner: u32, i: u32) -> u32 {
 
 // Its own, at times the other's or one that is absent; behind a mark of 0 any word.
 fn body_number(owner: u32, n: u32) -> u32 {
-    let d = draw(owner, 2);
-    if one_in(owner, 1, 12) == 1 {
+    let d = draw(owner, COLLIDER_BODY_NUMBER);
+    if one_in(owner, COLLIDER_BODY, 12) == 1 {
         return d;
     }
     match d % 24 {
-        0 => 127,
+        0 => LAST_BODY,
         1 => past(1, n),
         _ => n,
     }
@@ -94,7 +109,7 @@ fn body_number(owner: u32, n: u32) -> u32 {
 // Half of them stand where their bodies do.
 fn position_word(case: u32, n: u32, owner: u32, i: u32) -> u32 {
     if draw(owner, 61) % 2 == 0 {
-        body_word(case, n, past(i, 7))
+        body_word(case, n, slot(BODY_POSITION, past(i, COLLIDER_POSITION)))
     } else {
         float(owner, i, style(case))
     }
@@ -102,9 +117,9 @@ fn position_word(case: u32, n: u32, owner: u32, i: u32) -> u32 {
 
 fn place_word(case: u32, n: u32, owner: u32, i: u32) -> u32 {
     match i {
-        3..=5 => lower_word(owner, past(i, 3)),
-        6..=8 => upper_word(owner, past(i, 6)),
-        9..=11 => position_word(case, n, owner, i),
+        COLLIDER_LOWER..COLLIDER_UPPER => lower_word(owner, past(i, COLLIDER_LOWER)),
+        COLLIDER_UPPER..COLLIDER_POSITION => upper_word(owner, past(i, COLLIDER_UPPER)),
+        COLLIDER_POSITION..COLLIDER_MEMBERSHIPS => position_word(case, n, owner, i),
         _ => layers_word(owner, i),
     }
 }
@@ -112,13 +127,25 @@ fn place_word(case: u32, n: u32, owner: u32, i: u32) -> u32 {
 pub fn collider_word(case: u32, n: u32, i: u32) -> u32 {
     let owner = draw(case, slot(10, n));
     match i {
-        0 => all_but_one_in(owner, 0, 64),
-        1 => all_but_one_in(owner, 1, 12),
-        2 => body_number(owner, n),
-        3..=13 => place_word(case, n, owner, i),
-        14..=16 => coefficient_word(owner, 14, past(i, 14)),
-        17..=19 => coefficient_word(owner, 17, past(i, 17)),
-        20 | 21 => margin_word(owner, 20, past(i, 20)),
-        _ => one_in(owner, 22, 12),
+        COLLIDER_PRESENT => all_but_one_in(owner, i, 64),
+        COLLIDER_BODY => all_but_one_in(owner, i, 12),
+        COLLIDER_BODY_NUMBER => body_number(owner, n),
+        COLLIDER_LOWER..COLLIDER_FRICTION => place_word(case, n, owner, i),
+        COLLIDER_FRICTION..COLLIDER_RESTITUTION => coefficient_word(
+            owner,
+            COLLIDER_FRICTION,
+            past(i, COLLIDER_FRICTION),
+        ),
+        COLLIDER_RESTITUTION..COLLIDER_MARGIN => coefficient_word(
+            owner,
+            COLLIDER_RESTITUTION,
+            past(i, COLLIDER_RESTITUTION),
+        ),
+        COLLIDER_MARGIN..COLLIDER_SENSOR => margin_word(
+            owner,
+            COLLIDER_MARGIN,
+            past(i, COLLIDER_MARGIN),
+        ),
+        _ => one_in(owner, COLLIDER_SENSOR, 12),
     }
 }

@@ -1,7 +1,23 @@
 // A 32 bit FNV-1a hash of what a contact's record records, each word's four bytes from the lowest.
 ghost use Prim.Native.Nat.{_≤_, _<_};
+ghost use Rattle.rules.specs.Limits.{pairManifolds};
 use crate::draws::low;
 use crate::draws::slot;
+use crate::numbers::CACHED_SIZE;
+use crate::numbers::CONTACT_BODY1;
+use crate::numbers::CONTACT_BODY2;
+use crate::numbers::CONTACT_CACHE;
+use crate::numbers::CONTACT_COLLIDER1;
+use crate::numbers::CONTACT_COLLIDERS_SIZE;
+use crate::numbers::CONTACT_FIRST_MANIFOLD;
+use crate::numbers::CONTACT_MANIFOLDS;
+use crate::numbers::CONTACT_MIDDLE_SIZE;
+use crate::numbers::CONTACT_PAIR_INDEX;
+use crate::numbers::MANIFOLD_POINTS;
+use crate::numbers::MANIFOLD_SIZE;
+use crate::numbers::MANIFOLDS;
+use crate::numbers::POINT_SIZE;
+use crate::numbers::STORED_POINTS;
 use crate::places::word;
 
 pub const START: u32 = 2166136261;
@@ -50,18 +66,18 @@ fn at_most(n: u32, limit: u32) -> u32
 }
 
 pub fn manifold_count(record: &[u32]) -> u32
-    ensures { λ r. ⌜ r ≤ 6 ⌝ }
+    ensures { λ r. ⌜ r ≤ pairManifolds ⌝ }
 {
-    at_most(word(record, 36), 6)
+    at_most(word(record, CONTACT_MANIFOLDS), MANIFOLDS)
 }
 
 // Number of points, normal, friction, restitution, tangent velocity, then the points.
 fn add_manifold(record: &[u32], m: u32, before: u32) -> u32
-    requires { ⌜ m < 6 ⌝ }
+    requires { ⌜ m < pairManifolds ⌝ }
 {
-    let at = 37 + m * 81;
-    let points = at_most(word(record, at), 4);
-    add_words(record, at, 9 + points * 18, before)
+    let at = CONTACT_FIRST_MANIFOLD + m * MANIFOLD_SIZE;
+    let points = at_most(word(record, at), STORED_POINTS);
+    add_words(record, at, MANIFOLD_POINTS + points * POINT_SIZE, before)
 }
 
 fn add_manifolds(record: &[u32], before: u32) -> u32 {
@@ -77,12 +93,12 @@ fn add_manifolds(record: &[u32], before: u32) -> u32 {
 
 // Colliders; bodies; place in the list, marks, count change, speculative distance; cache; manifolds.
 pub fn add_record(record: &[u32], before: u32) -> u32 {
-    let colliders = add_words(record, 0, 2, before);
-    let body1 = add_optional(record, 2, 1, colliders);
-    let body2 = add_optional(record, 4, 1, body1);
-    let marks = add_words(record, 6, 14, body2);
-    let cache = add_optional(record, 20, 15, marks);
-    let counted = add_words(record, 36, 1, cache);
+    let colliders = add_words(record, CONTACT_COLLIDER1, CONTACT_COLLIDERS_SIZE, before);
+    let body1 = add_optional(record, CONTACT_BODY1, 1, colliders);
+    let body2 = add_optional(record, CONTACT_BODY2, 1, body1);
+    let middle = add_words(record, CONTACT_PAIR_INDEX, CONTACT_MIDDLE_SIZE, body2);
+    let cache = add_optional(record, CONTACT_CACHE, CACHED_SIZE, middle);
+    let counted = add_words(record, CONTACT_MANIFOLDS, 1, cache);
     add_manifolds(record, counted)
 }
 

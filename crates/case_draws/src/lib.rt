@@ -1,5 +1,5 @@
-// What the test programs share: words of a row, hashes, parts of a line, and how those that are compared with avian's Rust draw their cases
-// (tests/reference has the same draws).
+// What the test programs share: the layout's numbers, words of a row, hashes, parts of a line, and how those that are compared with
+// avian's Rust draw their cases (tests/reference has the same draws).
 pub mod bodies;
 pub mod colliders;
 pub mod draws;
@@ -7,6 +7,7 @@ pub mod fill;
 pub mod hash;
 pub mod line;
 pub mod manifolds;
+pub mod numbers;
 pub mod places;
 pub mod settings;
 pub mod speculative;

@@ -1,10 +1,37 @@
 // A case's manifolds and points, proposed and stored. Places past a count are filled too.
+ghost use Prim.Native.Nat.{_≤_, _<_};
+ghost use Rattle.rules.specs.Limits.{storedPoints, proposedPoints};
 use crate::draws::draw;
 use crate::draws::float;
 use crate::draws::one_in;
 use crate::draws::past;
 use crate::draws::slot;
 use crate::draws::style;
+use crate::numbers::MANIFOLD_COUNT;
+use crate::numbers::MANIFOLD_FRICTION;
+use crate::numbers::MANIFOLD_NORMAL;
+use crate::numbers::MANIFOLD_POINTS;
+use crate::numbers::MANIFOLDS;
+use crate::numbers::POINT_ANCHOR1;
+use crate::numbers::POINT_BASE_PENETRATION;
+use crate::numbers::POINT_FEATURE2;
+use crate::numbers::POINT_FEATURES;
+use crate::numbers::POINT_PENETRATION;
+use crate::numbers::POINT_POSITION;
+use crate::numbers::POINT_SIZE;
+use crate::numbers::PROPOSAL_COUNT;
+use crate::numbers::PROPOSAL_HOOK;
+use crate::numbers::PROPOSAL_MANIFOLDS;
+use crate::numbers::PROPOSED_MANIFOLD_COUNT;
+use crate::numbers::PROPOSED_MANIFOLD_NORMAL;
+use crate::numbers::PROPOSED_MANIFOLD_POINTS;
+use crate::numbers::PROPOSED_MANIFOLD_SIZE;
+use crate::numbers::PROPOSED_POINT_ANCHOR1;
+use crate::numbers::PROPOSED_POINT_PENETRATION;
+use crate::numbers::PROPOSED_POINT_POSITION;
+use crate::numbers::PROPOSED_POINT_SIZE;
+use crate::numbers::PROPOSED_POINTS;
+use crate::numbers::STORED_POINTS;
 
 // 0, 0.1, 0.05, the floats beside 0.1, -0.1, 0.5.
 const OFFSETS: [u32; 8] = [
@@ -112,67 +139,102 @@ fn feature(case: u32, owner: u32, at: u32) -> u32 {
     }
 }
 
+// How many more points are proposed than stored, at most, and the fewest that are too many to store.
+const MORE_POINTS: u32 = PROPOSED_POINTS - STORED_POINTS;
+
+const TOO_MANY_POINTS: u32 = STORED_POINTS + 1;
+
+// A number of points, d being a draw: up to as many as are stored.
+pub fn few_points(d: u32) -> u32
+    ensures { λ r. ⌜ r ≤ storedPoints ⌝ }
+{
+    d % TOO_MANY_POINTS
+}
+
+// More than are stored, up to as many as are proposed.
+pub fn many_points(d: u32) -> u32
+    ensures { λ r. ⌜ (storedPoints < r) × (r ≤ proposedPoints) ⌝ }
+{
+    TOO_MANY_POINTS + d % MORE_POINTS
+}
+
 // ---- proposed
 fn proposed_point_word(case: u32, owner: u32, j: u32) -> u32 {
     match j {
-        0..=5 => anchor(owner, j, style(case)),
-        6..=8 => float(owner, j, style(case)),
-        9 => penetration(owner, j, style(case)),
+        PROPOSED_POINT_ANCHOR1..PROPOSED_POINT_POSITION => anchor(owner, j, style(case)),
+        PROPOSED_POINT_POSITION..PROPOSED_POINT_PENETRATION => float(owner, j, style(case)),
+        PROPOSED_POINT_PENETRATION => penetration(owner, j, style(case)),
         _ => feature(case, owner, j),
     }
 }
 
-// 5 to 32 points in one of four, and all 32 in one of sixteen, else 0 to 4.
+// Many in one of four, and the most in one of sixteen, else few.
 fn proposed_count(owner: u32) -> u32 {
-    let d = draw(owner, 0);
+    let d = draw(owner, PROPOSED_MANIFOLD_COUNT);
     match d % 16 {
-        0 => 32,
-        1..=4 => 5 + d / 16 % 28,
-        _ => d / 16 % 5,
+        0 => PROPOSED_POINTS,
+        1..=4 => many_points(d / 16),
+        _ => few_points(d / 16),
     }
 }
 
 fn proposed_manifold_word(case: u32, owner: u32, r: u32) -> u32 {
-    let k = past(r, 4);
+    let k = past(r, PROPOSED_MANIFOLD_POINTS);
     match r {
-        0 => proposed_count(owner),
-        1..=3 => normal(owner, past(r, 1), style(case)),
-        _ => proposed_point_word(case, draw(owner, slot(100, k / 12)), k % 12),
+        PROPOSED_MANIFOLD_COUNT => proposed_count(owner),
+        PROPOSED_MANIFOLD_NORMAL..PROPOSED_MANIFOLD_POINTS => normal(
+            owner,
+            past(r, PROPOSED_MANIFOLD_NORMAL),
+            style(case),
+        ),
+        _ => proposed_point_word(
+            case,
+            draw(owner, slot(100, k / PROPOSED_POINT_SIZE)),
+            k % PROPOSED_POINT_SIZE,
+        ),
     }
 }
 
-// 0 to 6, seldom 0.
+// Up to the most, seldom 0.
 fn manifold_count(owner: u32) -> u32 {
-    let d = draw(owner, 1);
-    if d % 12 == 0 { 0 } else { 1 + d / 12 % 6 }
+    let d = draw(owner, PROPOSAL_COUNT);
+    if d % 12 == 0 {
+        0
+    } else {
+        1 + d / 12 % MANIFOLDS
+    }
 }
 
 pub fn proposal_word(case: u32, i: u32) -> u32 {
     let owner = draw(case, 50);
-    let k = past(i, 2);
+    let k = past(i, PROPOSAL_MANIFOLDS);
     match i {
-        0 => one_in(owner, 0, 2),
-        1 => manifold_count(owner),
-        _ => proposed_manifold_word(case, draw(owner, slot(100, k / 388)), k % 388),
+        PROPOSAL_HOOK => one_in(owner, i, 2),
+        PROPOSAL_COUNT => manifold_count(owner),
+        _ => proposed_manifold_word(
+            case,
+            draw(owner, slot(100, k / PROPOSED_MANIFOLD_SIZE)),
+            k % PROPOSED_MANIFOLD_SIZE,
+        ),
     }
 }
 
 // ---- stored
 fn point_word(case: u32, owner: u32, j: u32) -> u32 {
     match j {
-        0..=5 => anchor(owner, j, style(case)),
-        9 | 10 => penetration(owner, j, style(case)),
-        16 | 17 => feature(case, owner, j),
+        POINT_ANCHOR1..POINT_POSITION => anchor(owner, j, style(case)),
+        POINT_PENETRATION | POINT_BASE_PENETRATION => penetration(owner, j, style(case)),
+        POINT_FEATURES | POINT_FEATURE2 => feature(case, owner, j),
         _ => float(owner, j, style(case)),
     }
 }
 
 pub fn manifold_word(case: u32, owner: u32, r: u32) -> u32 {
-    let k = past(r, 9);
+    let k = past(r, MANIFOLD_POINTS);
     match r {
-        0 => draw(owner, 0) % 5,
-        1..=3 => normal(owner, past(r, 1), style(case)),
-        4..=8 => float(owner, r, style(case)),
-        _ => point_word(case, draw(owner, slot(100, k / 18)), k % 18),
+        MANIFOLD_COUNT => few_points(draw(owner, r)),
+        MANIFOLD_NORMAL..MANIFOLD_FRICTION => normal(owner, past(r, MANIFOLD_NORMAL), style(case)),
+        MANIFOLD_FRICTION..MANIFOLD_POINTS => float(owner, r, style(case)),
+        _ => point_word(case, draw(owner, slot(100, k / POINT_SIZE)), k % POINT_SIZE),
     }
 }

@@ -4,6 +4,14 @@ use crate::draws::all_but_one_in;
 use crate::draws::draw;
 use crate::draws::one_in;
 use crate::draws::slot;
+use crate::numbers::SETTINGS_CONTACT_TOLERANCE;
+use crate::numbers::SETTINGS_FRICTION;
+use crate::numbers::SETTINGS_LENGTH_UNIT;
+use crate::numbers::SETTINGS_MATCH_CONTACTS;
+use crate::numbers::SETTINGS_RECYCLE_COSINE;
+use crate::numbers::SETTINGS_RECYCLE_DISTANCE;
+use crate::numbers::SETTINGS_RESTITUTION;
+use crate::numbers::SETTINGS_STEP_TIME;
 
 // 1/64, 1/60, 0.3, 0.1, 0.07, 1, 0, -1/64, infinite, NaN.
 const TIMES: [u32; 16] = [
@@ -137,13 +145,13 @@ pub fn setting_word(case: u32, i: u32) -> u32 {
     let owner = draw(case, 30);
     let d = draw(owner, i);
     match i {
-        0 => TIMES[(d % 16) as usize],
-        1 => UNITS[(d % 16) as usize],
-        2 => TOLERANCES[(d % 16) as usize],
-        3 => DISTANCES[(d % 16) as usize],
-        4 => COSINES[(d % 16) as usize],
-        5 => all_but_one_in(owner, 5, 4),
-        6 | 8 => coefficient(owner, i),
+        SETTINGS_STEP_TIME => TIMES[(d % 16) as usize],
+        SETTINGS_LENGTH_UNIT => UNITS[(d % 16) as usize],
+        SETTINGS_CONTACT_TOLERANCE => TOLERANCES[(d % 16) as usize],
+        SETTINGS_RECYCLE_DISTANCE => DISTANCES[(d % 16) as usize],
+        SETTINGS_RECYCLE_COSINE => COSINES[(d % 16) as usize],
+        SETTINGS_MATCH_CONTACTS => all_but_one_in(owner, i, 4),
+        SETTINGS_FRICTION | SETTINGS_RESTITUTION => coefficient(owner, i),
         _ => rule(owner, i),
     }
 }

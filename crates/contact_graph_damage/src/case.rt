@@ -4,6 +4,7 @@ use crate::graph::change;
 use crate::graph::fill;
 use crate::graph::request;
 use crate::graph::same;
+use crate::places::GRAPH_LENGTH;
 use case_draws::line::print_count;
 use case_draws::line::print_end;
 use case_draws::line::print_name;
@@ -14,6 +15,7 @@ use contact_graph::look_up::LookUpAnswer;
 use contact_graph::look_up::look_up;
 use contact_graph::remove::RemoveAnswer;
 use contact_graph::remove::remove;
+use contact_types::contact_id::ContactId;
 
 fn print_found(answer: LookUpAnswer) {
     match answer {
@@ -44,9 +46,9 @@ fn print_removed(answer: RemoveAnswer) {
 }
 
 fn print_answers(graph: &mut [u32]) {
-    print_found(look_up(graph, 0));
+    print_found(look_up(graph, ContactId(0)));
     print_added(add(graph, request(70, 80, 1)));
-    print_removed(remove(graph, 0));
+    print_removed(remove(graph, ContactId(0)));
 }
 
 fn print_same(same: bool) {
@@ -65,8 +67,8 @@ fn damage(graph: &mut [u32], words: &[u32], from: u32, end: u32) {
 
 // Changed by `words`, and filled from a place on as far as another.
 pub fn print_filled(name: &[u8], words: &[u32], from: u32, end: u32) {
-    let mut graph = [0u32; 2104];
-    let mut before = [0u32; 2104];
+    let mut graph = [0u32; GRAPH_LENGTH];
+    let mut before = [0u32; GRAPH_LENGTH];
     damage(&mut graph, words, from, end);
     damage(&mut before, words, from, end);
     print_name(name);

@@ -1,9 +1,11 @@
-// A graph of capacity 4, built by calls: the contacts 0 and 2 stand, 1 is free, 3 was never given. The list stands at 4,
-// the free ids at 8, the records at 12, 535, 1058 and 1581. Contact 0 has no body 2.
+// A graph of capacity 4, built by calls: the contacts 0 and 2 stand, 1 is free, 3 was never given. Contact 0 has no body 2.
+use crate::places::CAPACITY;
+use crate::places::LARGEST;
 use contact_graph::add::add;
 use contact_graph::call::Request;
 use contact_graph::lay_out::lay_out;
 use contact_graph::remove::remove;
+use contact_types::contact_id::ContactId;
 
 pub fn request(collider1: u32, collider2: u32, has_body2: u32) -> Request {
     Request {
@@ -26,9 +28,9 @@ fn add_three(graph: &mut [u32]) {
 }
 
 pub fn build(graph: &mut [u32]) {
-    lay_out(graph, 4);
+    lay_out(graph, CAPACITY);
     add_three(graph);
-    remove(graph, 1);
+    remove(graph, ContactId(1));
 }
 
 fn store(graph: &mut [u32], at: u32, word: u32) {
@@ -50,7 +52,7 @@ pub fn change(graph: &mut [u32], words: &[u32]) {
 pub fn fill(graph: &mut [u32], from: u32, end: u32) {
     let mut at = from;
     while at < end {
-        store(graph, at, 4294967295);
+        store(graph, at, LARGEST);
         at += 1;
     }
 }

@@ -2,6 +2,7 @@
 // of refusals gives, by a plain test in Rust (tests/contact_graph.rs): 2 for damage of what is recorded, else none.
 mod case;
 mod graph;
+mod places;
 mod recorded;
 mod unrecorded;
 

@@ -2,15 +2,17 @@
 use crate::draws::draw;
 use crate::draws::id;
 use crate::draws::request;
+use crate::recorded::CAPACITY;
+use crate::recorded::GRAPH_LENGTH;
 use crate::recorded::print_recorded;
 use case_draws::line::print_count;
 use case_draws::line::print_end;
 use case_draws::line::print_name;
 use case_draws::line::print_refused;
+use collider::optional::OptionalBody;
 use contact_graph::add::AddAnswer;
 use contact_graph::add::add;
 use contact_graph::call::ContactEdge;
-use contact_graph::call::OptionalBody;
 use contact_graph::call::Request;
 use contact_graph::lay_out::LayOutAnswer;
 use contact_graph::lay_out::lay_out;
@@ -18,6 +20,7 @@ use contact_graph::look_up::LookUpAnswer;
 use contact_graph::look_up::look_up;
 use contact_graph::remove::RemoveAnswer;
 use contact_graph::remove::remove;
+use contact_types::contact_id::ContactId;
 use math::bits::bits_of;
 
 pub fn print_laid_out(answer: LayOutAnswer) {
@@ -46,8 +49,8 @@ fn print_removed(answer: RemoveAnswer) {
 
 fn print_body(body: OptionalBody) {
     match body {
-        OptionalBody::Body(n) => print_count(n),
-        OptionalBody::None => print_name(b"\tnone"),
+        OptionalBody::Named(n) => print_count(n),
+        OptionalBody::Unnamed => print_name(b"\tnone"),
     }
 }
 
@@ -103,14 +106,14 @@ fn print_remove(graph: &mut [u32], key: u32) {
     let id = id(key);
     print_name(b"remove");
     print_count(id);
-    print_removed(remove(graph, id));
+    print_removed(remove(graph, ContactId(id)));
 }
 
 fn print_look_up(graph: &[u32], key: u32) {
     let id = id(key);
     print_name(b"look_up");
     print_count(id);
-    print_found(look_up(graph, id));
+    print_found(look_up(graph, ContactId(id)));
 }
 
 // How many of ten calls are additions, removals, look ups: 6, 2, 2 or 2, 6, 2.
@@ -139,13 +142,13 @@ fn print_calls(graph: &mut [u32]) {
 
 fn print_start(graph: &mut [u32]) {
     print_name(b"lay_out\t8");
-    print_laid_out(lay_out(graph, 8));
+    print_laid_out(lay_out(graph, CAPACITY));
     print_recorded(graph);
     print_end();
 }
 
 pub fn print_graph() {
-    let mut graph = [0u32; 4204];
+    let mut graph = [0u32; GRAPH_LENGTH];
     print_start(&mut graph);
     print_calls(&mut graph);
 }

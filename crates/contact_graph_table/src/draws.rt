@@ -1,7 +1,10 @@
 // The draws that the calls are made of: by a key and the choice's number. The seed is 20261.
 ghost use Prim.Native.Nat.{_<_};
+use case_draws::numbers::MOST_CONTACTS;
 use contact_graph::call::Request;
 use contact_types::contact_id::ContactId;
+use layout::limits::BODIES;
+use layout::limits::COLLIDERS;
 use math::bits::float_of;
 
 // 0, 1, -0, 0.1, a NaN that is not the one written, infinite.
@@ -32,7 +35,7 @@ pub fn draw(key: u32, slot: u32) -> u32 {
 fn collider(key: u32, slot: u32) -> u32 {
     let d = draw(key, slot);
     if d % 64 == 0 {
-        256 + d / 64 % 3
+        COLLIDERS + d / 64 % 3
     } else {
         d / 64 % 6 * 51
     }
@@ -44,13 +47,13 @@ fn mark(key: u32, slot: u32) -> u32 {
     if d % 64 == 0 { 2 } else { d / 64 % 2 }
 }
 
-// At times 128 or more, which is no fault behind a mark of 0.
+// At times out of range, which is no fault behind a mark of 0.
 fn body(key: u32, slot: u32) -> u32 {
     let d = draw(key, slot);
     if d % 16 == 0 {
-        128 + d / 16 % 5000
+        BODIES + d / 16 % 5000
     } else {
-        d / 16 % 128
+        d / 16 % BODIES
     }
 }
 
@@ -73,7 +76,7 @@ pub fn id(key: u32) -> u32 {
     let d = draw(key, 1);
     match d % 32 {
         0 => ContactId::PLACEHOLDER.0,
-        1 => 256 + d / 32 % 9,
+        1 => MOST_CONTACTS + d / 32 % 9,
         _ => d / 32 % 10,
     }
 }

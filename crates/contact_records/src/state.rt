@@ -4,7 +4,7 @@ ghost use Prim.Native.Nat.{_+_, _≤_};
 ghost use lib.ListN.{length};
 ghost use Rattle.rows.specs.Rows.{put};
 ghost use Rattle.layout.specs.Contact.{cacheSize, flagsSize};
-ghost use Rattle.contact_records.specs.Recorded.{intOf, flagsAt, cacheAt};
+ghost use Rattle.contact_records.specs.Recorded.{flagsAt, cacheAt};
 ghost use Rattle.contact_records.specs.StateViews.{flagsOf, cachedOf, cacheOf};
 ghost use Rattle.contact_records.specs.Written.{intWord, flagsWords, cacheWords};
 ghost use mathlib.Core.Option.{some};
@@ -87,7 +87,7 @@ pub fn store_flags(g: &mut [u32], at: usize, f: ContactPairFlags)
     store_words(g, at, &w);
 }
 
-// A signed number as a word, in two's complement, and back.
+// A signed number as a word, in two's complement.
 pub fn word_of_int(i: i32) -> u32
     ensures { λ r. ⌜ r ≡ intWord i ⌝ }
 {
@@ -95,16 +95,6 @@ pub fn word_of_int(i: i32) -> u32
         0xffff_ffff - (-1 - i) as u32
     } else {
         i as u32
-    }
-}
-
-pub fn int_of_word(w: u32) -> i32
-    ensures { λ r. ⌜ r ≡ intOf w ⌝ }
-{
-    if w < 0x8000_0000 {
-        w as i32
-    } else {
-        -1 - (0xffff_ffff - w) as i32
     }
 }
 

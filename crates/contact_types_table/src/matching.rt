@@ -1,6 +1,7 @@
-// Matching of a new manifold with up to 6 old ones: the impulses of each new point. Single cases have one old manifold.
+// Matching of a new manifold with as many old ones as a pair has: the impulses of each new point. Single cases have one old manifold.
 // The loops are the table's own: what is tested is `matches`, and the order in which the rule uses it.
 ghost use Prim.Native.Nat.{_≤_};
+ghost use Rattle.rules.specs.Limits.{storedPoints};
 use crate::draws::draw;
 use crate::draws::number;
 use crate::draws::vector;
@@ -8,9 +9,12 @@ use crate::line::print_float;
 use case_draws::line::print_end;
 use case_draws::line::print_name;
 use case_draws::line::print_word;
+use case_draws::manifolds::few_points;
+use case_draws::numbers::MANIFOLDS;
 use contact_types::contact_point::ContactPoint;
 use contact_types::feature_id::PackedFeatureId;
 use contact_types::matching::matches;
+use layout::limits::STORED_POINTS;
 use math::bits::float_of;
 use math::vec::Vec2;
 use math::vec::Vec3;
@@ -45,7 +49,7 @@ const THRESHOLDS: [u32; 12] = [
 
 // A manifold's points: the first `count` of the list.
 struct Points {
-    list: [ContactPoint; 4],
+    list: [ContactPoint; STORED_POINTS],
     count: u32,
 }
 
@@ -119,7 +123,7 @@ fn contact(owner: u32, slot: u32, features: u32, anchors: u32) -> ContactPoint {
 
 // All places are filled. The styles are the case's.
 fn manifold(case: u32, slot: u32) -> Points
-    ensures { λ r. ⌜ r .count ≤ 4 ⌝ }
+    ensures { λ r. ⌜ r .count ≤ storedPoints ⌝ }
 {
     let features = draw(case, 1) % 4;
     let anchors = draw(case, 2) % 4;
@@ -131,7 +135,7 @@ fn manifold(case: u32, slot: u32) -> Points
             contact(key, 3, features, anchors),
             contact(key, 4, features, anchors),
         ],
-        count: draw(key, 5) % 5,
+        count: few_points(draw(key, 5)),
     }
 }
 
@@ -145,7 +149,7 @@ fn with_impulses(mut new: ContactPoint, old: ContactPoint) -> ContactPoint {
 
 // The first old point that matches gives its impulses.
 fn match_point(new: ContactPoint, olds: Points, threshold_squared: f32) -> ContactPoint
-    requires { ⌜ olds .count ≤ 4 ⌝ }
+    requires { ⌜ olds .count ≤ storedPoints ⌝ }
 {
     let list = olds.list;
     let count = olds.count as usize;
@@ -162,8 +166,8 @@ fn match_point(new: ContactPoint, olds: Points, threshold_squared: f32) -> Conta
 
 // Each point, against the points of one old manifold.
 fn match_contacts(mut news: Points, olds: Points, distance_threshold: f32) -> Points
-    requires { ⌜ (news .count ≤ 4) × (olds .count ≤ 4) ⌝ }
-    ensures { λ r. ⌜ r .count ≤ 4 ⌝ }
+    requires { ⌜ (news .count ≤ storedPoints) × (olds .count ≤ storedPoints) ⌝ }
+    ensures { λ r. ⌜ r .count ≤ storedPoints ⌝ }
 {
     let threshold_squared = distance_threshold * distance_threshold;
     let count = news.count as usize;
@@ -179,12 +183,14 @@ fn match_contacts(mut news: Points, olds: Points, distance_threshold: f32) -> Po
     news
 }
 
+const MANIFOLD_COUNTS: u32 = MANIFOLDS + 1;
+
 // Against each of the case's old manifolds in turn: a later one overrides.
 fn match_all(case: u32, news: Points) -> Points
-    requires { ⌜ news .count ≤ 4 ⌝ }
-    ensures { λ r. ⌜ r .count ≤ 4 ⌝ }
+    requires { ⌜ news .count ≤ storedPoints ⌝ }
+    ensures { λ r. ⌜ r .count ≤ storedPoints ⌝ }
 {
-    let count = draw(case, 5) % 7;
+    let count = draw(case, 5) % MANIFOLD_COUNTS;
     let mut m = news;
     let mut i = 0;
     while i < count {
@@ -202,7 +208,7 @@ fn print_impulses(p: ContactPoint) {
 }
 
 fn print_line(name: &[u8], c: u32, m: Points)
-    requires { ⌜ m .count ≤ 4 ⌝ }
+    requires { ⌜ m .count ≤ storedPoints ⌝ }
 {
     print_name(name);
     print_word(c);

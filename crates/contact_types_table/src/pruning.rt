@@ -1,16 +1,23 @@
-// Pruning of 5 to 32 points: the numbers of those that stay. Every third case goes through the call `prune`.
+// Pruning of more points than are stored: the numbers of those that stay. Every third case goes through the call `prune`.
 ghost use Prim.Native.Nat.{_<_, _≤_};
+ghost use Rattle.rules.specs.Limits.{proposedPoints};
 use crate::draws::draw;
 use crate::draws::number;
 use crate::draws::vector;
 use case_draws::line::print_end;
 use case_draws::line::print_name;
 use case_draws::line::print_word;
+use case_draws::manifolds::many_points;
 use contact_types::prune::PruneAnswer;
 use contact_types::prune::prune;
 use contact_types::pruning::KeptPoints;
 use contact_types::pruning::PrunePoint;
 use contact_types::pruning::prune_points;
+use layout::limits::PROPOSED_POINTS;
+use layout::prune::PRUNE_POINT_ANCHOR1;
+use layout::prune::PRUNE_POINT_PENETRATION;
+use layout::prune::PRUNE_POINT_SIZE;
+use layout::prune::PRUNE_POINTS_LENGTH;
 use math::bits::bits_of;
 use math::vec::Vec3;
 
@@ -87,15 +94,15 @@ fn point(owner: u32, slot: u32, shape: u32, kind: u32) -> PrunePoint {
     }
 }
 
-// All 32 places are filled.
-fn points(key: u32, shape: u32, kind: u32) -> [PrunePoint; 32] {
+// All places are filled.
+fn points(key: u32, shape: u32, kind: u32) -> [PrunePoint; PROPOSED_POINTS] {
     let none = PrunePoint {
         anchor1: Vec3::ZERO,
         penetration: 0.0,
     };
-    let mut ps = [none; 32];
+    let mut ps = [none; PROPOSED_POINTS];
     let mut k = 0;
-    while k < 32 {
+    while k < PROPOSED_POINTS {
         let p = point(key, 100 + copied(shape, k as u32), shape, kind);
         ps[k] = p;
         k += 1;
@@ -103,23 +110,25 @@ fn points(key: u32, shape: u32, kind: u32) -> [PrunePoint; 32] {
     ps
 }
 
+const ANCHOR_Y: usize = PRUNE_POINT_ANCHOR1 + 1;
+
 // The i-th of a point's words.
 fn word(p: PrunePoint, i: usize) -> u32 {
     let x = match i {
-        0 => p.anchor1.x,
-        1 => p.anchor1.y,
-        2 => p.anchor1.z,
-        _ => p.penetration,
+        PRUNE_POINT_ANCHOR1 => p.anchor1.x,
+        ANCHOR_Y => p.anchor1.y,
+        PRUNE_POINT_PENETRATION => p.penetration,
+        _ => p.anchor1.z,
     };
     bits_of(x)
 }
 
-fn words(ps: [PrunePoint; 32]) -> [u32; 128] {
-    let mut ws = [0u32; 128];
+fn words(ps: [PrunePoint; PROPOSED_POINTS]) -> [u32; PRUNE_POINTS_LENGTH] {
+    let mut ws = [0u32; PRUNE_POINTS_LENGTH];
     let mut i = 0;
-    while i < 128 {
-        let p = ps[i / 4];
-        ws[i] = word(p, i % 4);
+    while i < PRUNE_POINTS_LENGTH {
+        let p = ps[i / PRUNE_POINT_SIZE];
+        ws[i] = word(p, i % PRUNE_POINT_SIZE);
         i += 1;
     }
     ws
@@ -143,8 +152,8 @@ fn print_answer(answer: PruneAnswer) {
     }
 }
 
-fn print_pruned(ps: [PrunePoint; 32], count: u32, normal: Vec3, through_words: bool)
-    requires { ⌜ (1 < count) × (count ≤ 32) ⌝ }
+fn print_pruned(ps: [PrunePoint; PROPOSED_POINTS], count: u32, normal: Vec3, through_words: bool)
+    requires { ⌜ (1 < count) × (count ≤ proposedPoints) ⌝ }
 {
     if through_words {
         let ws = words(ps);
@@ -159,7 +168,7 @@ fn print_case(c: u32) {
     let ps = points(key, c % 10, draw(key, 3) % 5);
     print_name(b"prune");
     print_word(c);
-    print_pruned(ps, 5 + draw(key, 1) % 28, normal(key, 2), c % 3 == 0);
+    print_pruned(ps, many_points(draw(key, 1)), normal(key, 2), c % 3 == 0);
     print_end();
 }
 

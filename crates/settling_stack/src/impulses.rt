@@ -2,6 +2,16 @@
 use crate::places::record_at;
 use case_draws::draws::low;
 use case_draws::draws::slot;
+use case_draws::numbers::CONTACT_FIRST_MANIFOLD;
+use case_draws::numbers::GRAPH_LIST;
+use case_draws::numbers::GRAPH_LISTED;
+use case_draws::numbers::MANIFOLD_POINTS;
+use case_draws::numbers::POINT_NORMAL_IMPULSE;
+use case_draws::numbers::POINT_SIZE;
+use case_draws::numbers::POINT_WARM_START_NORMAL_IMPULSE;
+use case_draws::numbers::POINT_WARM_START_TANGENT_IMPULSE;
+use case_draws::numbers::POINT_WARM_START_TANGENT_IMPULSE_Y;
+use case_draws::numbers::STORED_POINTS;
 use case_draws::places::put;
 use case_draws::places::word;
 
@@ -11,13 +21,20 @@ fn impulse(step: u32, id: u32, point: u32, k: u32) -> u32 {
     0x3f00_0000 + (b % 8388608) as u32
 }
 
-// Words 11, 13, 14 and 15 of point p: those of the manifold there is.
+// The impulse at place k of the point that begins at a place.
+fn write_word(graph: &mut [u32], id: u32, at: u32, p: u32, k: u32, step: u32) {
+    put(graph, record_at(id, slot(at, k)), impulse(step, id, p, k));
+}
+
+// The first point of the manifold there is.
+const FIRST_POINT: u32 = CONTACT_FIRST_MANIFOLD + MANIFOLD_POINTS;
+
 fn write_point(graph: &mut [u32], id: u32, p: u32, step: u32) {
-    let at = slot(46, p % 4 * 18);
-    put(graph, record_at(id, slot(at, 11)), impulse(step, id, p, 11));
-    put(graph, record_at(id, slot(at, 13)), impulse(step, id, p, 13));
-    put(graph, record_at(id, slot(at, 14)), impulse(step, id, p, 14));
-    put(graph, record_at(id, slot(at, 15)), impulse(step, id, p, 15));
+    let at = slot(FIRST_POINT, p % STORED_POINTS * POINT_SIZE);
+    write_word(graph, id, at, p, POINT_NORMAL_IMPULSE, step);
+    write_word(graph, id, at, p, POINT_WARM_START_NORMAL_IMPULSE, step);
+    write_word(graph, id, at, p, POINT_WARM_START_TANGENT_IMPULSE, step);
+    write_word(graph, id, at, p, POINT_WARM_START_TANGENT_IMPULSE_Y, step);
 }
 
 fn write_points(graph: &mut [u32], id: u32, step: u32) {
@@ -28,10 +45,10 @@ fn write_points(graph: &mut [u32], id: u32, step: u32) {
 }
 
 pub fn write_impulses(graph: &mut [u32], step: u32) {
-    let listed = word(graph, 2);
+    let listed = word(graph, GRAPH_LISTED);
     let mut p = 0;
     while p < listed {
-        let id = word(graph, slot(4, p));
+        let id = word(graph, slot(GRAPH_LIST, p));
         write_points(graph, id, step);
         p += 1;
     }

@@ -1,11 +1,16 @@
 // How the boxes move in a step: each falls by 0.03 as far as the box below lets it, and shifts to and fro. Now and then the upper
 // boxes are lifted.
 use crate::boxes::body_presence;
+use crate::places::BOXES;
 use crate::places::body_at;
 use crate::places::position;
 use crate::places::put_float;
 use case_draws::draws::past;
 use case_draws::draws::slot;
+use case_draws::numbers::BODY_LINEAR_VELOCITY;
+use case_draws::numbers::BODY_POSITION;
+use case_draws::numbers::BODY_PRESENT;
+use case_draws::numbers::BODY_ROTATION;
 use case_draws::places::put;
 
 // About y: y is 0, 0.05 or 0.1, w its cosine; x and z are 0.
@@ -33,7 +38,7 @@ fn height(y: f32, rest: f32, lift: bool) -> f32 {
 
 // Every 48 steps a larger shift, and back after 24.
 fn shifted(x: f32, n: u32, step: u32) -> f32 {
-    match slot(step, n % 9 * 3) % 48 {
+    match slot(step, n % BOXES * 3) % 48 {
         0 => x + 0.125,
         24 => x - 0.125,
         _ => if slot(step, n) % 2 == 0 {
@@ -47,14 +52,26 @@ fn shifted(x: f32, n: u32, step: u32) -> f32 {
 // The position and the velocity along an axis.
 fn move_along(bodies: &mut [u32], n: u32, axis: u32, to: f32) {
     let from = position(bodies, n, axis);
-    put_float(bodies, body_at(n, slot(2, axis)), to);
-    put_float(bodies, body_at(n, slot(12, axis)), (to - from) * 64.0);
+    put_float(bodies, body_at(n, slot(BODY_POSITION, axis)), to);
+    put_float(
+        bodies,
+        body_at(n, slot(BODY_LINEAR_VELOCITY, axis)),
+        (to - from) * 64.0,
+    );
 }
 
 // Box 4 turns about y every 32 steps.
 fn turn(bodies: &mut [u32], step: u32) {
-    put(bodies, body_at(4, 6), TURNS[(step / 32 % 3) as usize]);
-    put(bodies, body_at(4, 8), COSINES[(step / 32 % 3) as usize]);
+    put(
+        bodies,
+        body_at(4, slot(BODY_ROTATION, 1)),
+        TURNS[(step / 32 % 3) as usize],
+    );
+    put(
+        bodies,
+        body_at(4, slot(BODY_ROTATION, 3)),
+        COSINES[(step / 32 % 3) as usize],
+    );
 }
 
 fn move_box(bodies: &mut [u32], n: u32, step: u32) {
@@ -63,14 +80,14 @@ fn move_box(bodies: &mut [u32], n: u32, step: u32) {
     move_along(bodies, n, 1, y);
     let x = shifted(position(bodies, n, 0), n, step);
     move_along(bodies, n, 0, x);
-    put(bodies, body_at(n, 0), body_presence(n, step));
+    put(bodies, body_at(n, BODY_PRESENT), body_presence(n, step));
 }
 
 // From the lowest up.
 pub fn move_boxes(bodies: &mut [u32], step: u32) {
     turn(bodies, step);
     let mut n = 1;
-    while n < 9 {
+    while n < BOXES {
         move_box(bodies, n, step);
         n += 1;
     }

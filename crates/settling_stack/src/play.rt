@@ -1,11 +1,19 @@
 // The steps of the stack and the lines.
 use crate::additions::add_near;
-use crate::boxes::SETTINGS;
 use crate::boxes::fill_bodies;
 use crate::boxes::fill_colliders;
+use crate::boxes::fill_settings;
 use crate::dealt::fill_shares;
 use crate::impulses::write_impulses;
 use crate::moves::move_boxes;
+use crate::places::BITS_LENGTH;
+use crate::places::CAPACITY;
+use crate::places::CHANGES_LENGTH;
+use crate::places::DISTANCES_LENGTH;
+use crate::places::EVENTS_LENGTH;
+use crate::places::GRAPH_LENGTH;
+use crate::places::PROPOSALS_LENGTH;
+use crate::places::SHARES_LENGTH;
 use crate::places::raise;
 use crate::proposed::fill_proposals;
 use crate::recorded::graph_hash;
@@ -18,10 +26,16 @@ use case_draws::line::print_end;
 use case_draws::line::print_name;
 use case_draws::line::print_number;
 use case_draws::line::print_word;
+use case_draws::numbers::CHANGE_SIZE;
+use case_draws::numbers::EVENT_SIZE;
+use case_draws::numbers::GRAPH_LISTED;
+use case_draws::numbers::SETTINGS_LENGTH;
 use case_draws::places::put;
 use case_draws::places::word;
 use contact_graph::lay_out::LayOutAnswer;
 use contact_graph::lay_out::lay_out;
+use layout::body::BODIES_LENGTH;
+use layout::collider::COLLIDERS_LENGTH;
 use step::answer::StepAnswer;
 use step::answer::StepReport;
 use step::step::step;
@@ -35,10 +49,9 @@ fn clear(tally: &mut [u32]) {
     put(tally, 4, START);
 }
 
-// An event has eight words, a change five.
 fn count(tally: &mut [u32], report: StepReport, events: &[u32], changes: &[u32]) {
-    let event_words = low(report.events as u64 * 8) as u32;
-    let change_words = low(report.changes as u64 * 5) as u32;
+    let event_words = low(report.events as u64 * EVENT_SIZE as u64) as u32;
+    let change_words = low(report.changes as u64 * CHANGE_SIZE as u64) as u32;
     raise(tally, 0, report.events);
     raise(tally, 1, report.changes);
     raise(tally, 2, report.recycled);
@@ -68,12 +81,13 @@ fn run(
     graph: &mut [u32],
     tally: &mut [u32],
 ) -> u32 {
-    let settings = SETTINGS;
-    let mut shares = [0u32; 73];
-    let mut bits = [0u64; 8];
-    let mut events = [0u32; 512];
-    let mut changes = [0u32; 320];
-    let mut distances = [0u32; 64];
+    let mut settings = [0u32; SETTINGS_LENGTH as usize];
+    let mut shares = [0u32; SHARES_LENGTH];
+    let mut bits = [0u64; BITS_LENGTH];
+    let mut events = [0u32; EVENTS_LENGTH];
+    let mut changes = [0u32; CHANGES_LENGTH];
+    let mut distances = [0u32; DISTANCES_LENGTH];
+    fill_settings(&mut settings);
     fill_shares(&mut shares, graph);
     let answer = step(
         &settings,
@@ -109,7 +123,7 @@ fn play_step(
 
 fn print_tally(graph: &[u32], tally: &[u32], steps: u32) {
     print_number(steps);
-    print_count(word(graph, 2));
+    print_count(word(graph, GRAPH_LISTED));
     print_count(touching_pairs(graph));
     print_count(word(tally, 0));
     print_count(word(tally, 1));
@@ -154,17 +168,17 @@ fn play(
 }
 
 fn start(graph: &mut [u32]) {
-    match lay_out(graph, 64) {
+    match lay_out(graph, CAPACITY) {
         LayOutAnswer::Done => {}
         LayOutAnswer::Refused(refusal) => print_refused(refusal.number()),
     }
 }
 
 pub fn print_stack() {
-    let mut colliders = [0u32; 5888];
-    let mut bodies = [0u32; 3328];
-    let mut proposals = [0u32; 149120];
-    let mut graph = [0u32; 33604];
+    let mut colliders = [0u32; COLLIDERS_LENGTH];
+    let mut bodies = [0u32; BODIES_LENGTH];
+    let mut proposals = [0u32; PROPOSALS_LENGTH];
+    let mut graph = [0u32; GRAPH_LENGTH];
     let mut tally = [0u32; 5];
     start(&mut graph);
     fill_bodies(&mut bodies);

@@ -1,10 +1,27 @@
 // What is proposed to a listed pair: a manifold of four points where its boxes are at most 0.02 apart, at the upper box's lower
 // corners, else none.
+use crate::places::BOXES;
 use crate::places::position;
 use crate::places::proposal_at;
 use crate::places::record_at;
 use case_draws::draws::past;
 use case_draws::draws::slot;
+use case_draws::numbers::CONTACT_COLLIDER1;
+use case_draws::numbers::CONTACT_COLLIDER2;
+use case_draws::numbers::GRAPH_LIST;
+use case_draws::numbers::GRAPH_LISTED;
+use case_draws::numbers::PROPOSAL_COUNT;
+use case_draws::numbers::PROPOSAL_HOOK;
+use case_draws::numbers::PROPOSAL_MANIFOLDS;
+use case_draws::numbers::PROPOSED_MANIFOLD_COUNT;
+use case_draws::numbers::PROPOSED_MANIFOLD_NORMAL;
+use case_draws::numbers::PROPOSED_MANIFOLD_POINTS;
+use case_draws::numbers::PROPOSED_POINT_ANCHOR1;
+use case_draws::numbers::PROPOSED_POINT_ANCHOR2;
+use case_draws::numbers::PROPOSED_POINT_FEATURES;
+use case_draws::numbers::PROPOSED_POINT_PENETRATION;
+use case_draws::numbers::PROPOSED_POINT_POSITION;
+use case_draws::numbers::PROPOSED_POINT_SIZE;
 use case_draws::places::put;
 use case_draws::places::word;
 use math::bits::bits_of;
@@ -28,18 +45,38 @@ fn world_corner(bodies: &[u32], above: u32, k: u32, axis: u32) -> f32 {
     position(bodies, above, axis) + corner(k, axis)
 }
 
+const CORNERS: u32 = 4;
+
 // Numbered by box and corner.
 fn feature(n: u32, k: u32) -> u32 {
-    1 + n % 9 * 4 + k % 4
+    1 + n % BOXES * CORNERS + k % CORNERS
+}
+
+fn anchor1_word(bodies: &[u32], below: u32, above: u32, k: u32, axis: u32) -> u32 {
+    bits_of(world_corner(bodies, above, k, axis) - position(bodies, below, axis))
 }
 
 fn point_word(bodies: &[u32], below: u32, above: u32, k: u32, j: u32) -> u32 {
     match j {
-        0..=2 => bits_of(world_corner(bodies, above, k, j) - position(bodies, below, j)),
-        3..=5 => bits_of(corner(k, past(j, 3))),
-        6..=8 => bits_of(world_corner(bodies, above, k, past(j, 6))),
-        9 => bits_of(penetration(bodies, below, above)),
-        10 => feature(below, k),
+        PROPOSED_POINT_ANCHOR1..PROPOSED_POINT_ANCHOR2 => anchor1_word(
+            bodies,
+            below,
+            above,
+            k,
+            past(j, PROPOSED_POINT_ANCHOR1),
+        ),
+        PROPOSED_POINT_ANCHOR2..PROPOSED_POINT_POSITION => bits_of(corner(
+            k,
+            past(j, PROPOSED_POINT_ANCHOR2),
+        )),
+        PROPOSED_POINT_POSITION..PROPOSED_POINT_PENETRATION => bits_of(world_corner(
+            bodies,
+            above,
+            k,
+            past(j, PROPOSED_POINT_POSITION),
+        )),
+        PROPOSED_POINT_PENETRATION => bits_of(penetration(bodies, below, above)),
+        PROPOSED_POINT_FEATURES => feature(below, k),
         _ => feature(above, k),
     }
 }
@@ -52,25 +89,42 @@ fn manifold_count(bodies: &[u32], below: u32, above: u32) -> u32 {
     }
 }
 
+// In a proposal, the first manifold: the number of its points, its normal, the middle of this, its points, the end of the fourth.
+const FIRST_COUNT: u32 = PROPOSAL_MANIFOLDS + PROPOSED_MANIFOLD_COUNT;
+
+const FIRST_NORMAL: u32 = PROPOSAL_MANIFOLDS + PROPOSED_MANIFOLD_NORMAL;
+
+const FIRST_NORMAL_Y: u32 = FIRST_NORMAL + 1;
+
+const FIRST_POINTS: u32 = PROPOSAL_MANIFOLDS + PROPOSED_MANIFOLD_POINTS;
+
+const CORNERS_END: u32 = FIRST_POINTS + CORNERS * PROPOSED_POINT_SIZE;
+
 // The hook says no in three of fifty steps. The normal is along y.
 fn proposal_word(bodies: &[u32], below: u32, above: u32, i: u32, step: u32) -> u32 {
-    let k = past(i, 6);
+    let k = past(i, FIRST_POINTS);
     match i {
-        0 => if step % 50 < 3 { 0 } else { 1 },
-        1 => manifold_count(bodies, below, above),
-        2 => 4,
-        4 => 0x3f80_0000,
-        3 | 5 => 0,
-        _ => point_word(bodies, below, above, k / 12, k % 12),
+        PROPOSAL_HOOK => if step % 50 < 3 { 0 } else { 1 },
+        PROPOSAL_COUNT => manifold_count(bodies, below, above),
+        FIRST_COUNT => CORNERS,
+        FIRST_NORMAL_Y => 0x3f80_0000,
+        FIRST_NORMAL..FIRST_POINTS => 0,
+        _ => point_word(
+            bodies,
+            below,
+            above,
+            k / PROPOSED_POINT_SIZE,
+            k % PROPOSED_POINT_SIZE,
+        ),
     }
 }
 
 // As far as the fourth point of the first manifold.
 fn propose(proposals: &mut [u32], graph: &[u32], bodies: &[u32], id: u32, step: u32) {
-    let below = word(graph, record_at(id, 0));
-    let above = word(graph, record_at(id, 1));
+    let below = word(graph, record_at(id, CONTACT_COLLIDER1));
+    let above = word(graph, record_at(id, CONTACT_COLLIDER2));
     let mut i = 0;
-    while i < 54 {
+    while i < CORNERS_END {
         put(
             proposals,
             proposal_at(id, i),
@@ -81,10 +135,16 @@ fn propose(proposals: &mut [u32], graph: &[u32], bodies: &[u32], id: u32, step: 
 }
 
 pub fn fill_proposals(proposals: &mut [u32], graph: &[u32], bodies: &[u32], step: u32) {
-    let listed = word(graph, 2);
+    let listed = word(graph, GRAPH_LISTED);
     let mut p = 0;
     while p < listed {
-        propose(proposals, graph, bodies, word(graph, slot(4, p)), step);
+        propose(
+            proposals,
+            graph,
+            bodies,
+            word(graph, slot(GRAPH_LIST, p)),
+            step,
+        );
         p += 1;
     }
 }

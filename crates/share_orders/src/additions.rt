@@ -2,7 +2,9 @@
 use crate::draws::all_but_one_in;
 use crate::draws::draw;
 use crate::draws::one_in;
+use crate::places::CAPACITY;
 use crate::places::EVENTS;
+use crate::places::GRAPH_LENGTH;
 use crate::places::copy;
 use case_draws::draws::slot;
 use contact_graph::add::AddAnswer;
@@ -10,6 +12,7 @@ use contact_graph::add::add;
 use contact_graph::call::Request;
 use contact_graph::lay_out::LayOutAnswer;
 use contact_graph::lay_out::lay_out;
+use layout::limits::BODIES;
 use math::bits::float_of;
 
 // 0, 0.1, 1, 2.
@@ -22,9 +25,9 @@ fn request(key: u32) -> Request {
         collider1: first,
         collider2: (first + 1 + draw(key, 2) % 5) % 6,
         has_body1: all_but_one_in(key, 3, 5),
-        body1: draw(key, 4) % 128,
+        body1: draw(key, 4) % BODIES,
         has_body2: all_but_one_in(key, 5, 5),
-        body2: draw(key, 6) % 128,
+        body2: draw(key, 6) % BODIES,
         contact_events: all_but_one_in(key, 7, 4),
         modify_contacts: one_in(key, 8, 3),
         speculative_distance: float_of(DISTANCES[(draw(key, 9) % 4) as usize]),
@@ -48,15 +51,15 @@ fn add_each(graph: &mut [u32], key: u32, count: u32) {
 }
 
 pub fn add_pairs(row: &mut [u32], key: u32, count: u32) {
-    let mut graph = [0u32; 4204];
+    let mut graph = [0u32; GRAPH_LENGTH];
     copy(row, 0, &mut graph, 0, EVENTS);
     add_each(&mut graph, key, count);
     copy(&graph, 0, row, 0, EVENTS);
 }
 
 pub fn start(row: &mut [u32]) {
-    let mut graph = [0u32; 4204];
-    match lay_out(&mut graph, 8) {
+    let mut graph = [0u32; GRAPH_LENGTH];
+    match lay_out(&mut graph, CAPACITY) {
         LayOutAnswer::Done => copy(&graph, 0, row, 0, EVENTS),
         LayOutAnswer::Refused(_) => {}
     }

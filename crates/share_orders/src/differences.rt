@@ -64,7 +64,7 @@ pub fn run_all(
     step: u32,
     key: u32,
 ) -> Difference {
-    let mut after = [0u32; 4320];
+    let mut after = [0u32; LENGTH as usize];
     let mut difference = Difference::NONE;
     run(
         settings,

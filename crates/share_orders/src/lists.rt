@@ -8,6 +8,7 @@ use crate::draws::draw;
 use crate::impulses::write_impulses;
 use crate::places::ANSWER;
 use crate::places::LENGTH;
+use crate::places::PROPOSALS_LENGTH;
 use crate::places::copy;
 use crate::places::raise;
 use crate::places::raise_each;
@@ -20,7 +21,11 @@ use case_draws::line::print_count;
 use case_draws::line::print_end;
 use case_draws::line::print_name;
 use case_draws::line::print_number;
+use case_draws::numbers::GRAPH_LISTED;
+use case_draws::numbers::SETTINGS_LENGTH;
 use case_draws::places::word;
+use layout::body::BODIES_LENGTH;
+use layout::collider::COLLIDERS_LENGTH;
 
 // Steps accepted, contacts updated, events, changes, contacts recycled, of a step that began with so many contacts.
 fn count_step(counts: &mut [u32], row: &[u32], listed: u32) {
@@ -57,9 +62,9 @@ fn play_step(
     step: u32,
     key: u32,
 ) -> Difference {
-    let mut first = [0u32; 4320];
+    let mut first = [0u32; LENGTH as usize];
     prepare(colliders, bodies, proposals, row, step, key);
-    let listed = word(row, 2);
+    let listed = word(row, GRAPH_LISTED);
     let difference = run_all(
         settings,
         colliders,
@@ -105,11 +110,11 @@ fn play_steps(
 }
 
 fn play_list(counts: &mut [u32], key: u32) -> Difference {
-    let mut settings = [0u32; 10];
-    let mut colliders = [0u32; 5888];
-    let mut bodies = [0u32; 3328];
-    let mut proposals = [0u32; 18640];
-    let mut row = [0u32; 4320];
+    let mut settings = [0u32; SETTINGS_LENGTH as usize];
+    let mut colliders = [0u32; COLLIDERS_LENGTH];
+    let mut bodies = [0u32; BODIES_LENGTH];
+    let mut proposals = [0u32; PROPOSALS_LENGTH];
+    let mut row = [0u32; LENGTH as usize];
     start(&mut row);
     fill_settings(&mut settings, key);
     fill_world(&mut colliders, &mut bodies, key);

@@ -2,8 +2,25 @@
 use crate::draws::all_but_one_in;
 use crate::draws::draw;
 use crate::draws::float;
+use crate::places::CAPACITY;
 use case_draws::draws::past;
 use case_draws::draws::slot;
+use case_draws::numbers::GRAPH_LIST;
+use case_draws::numbers::GRAPH_LISTED;
+use case_draws::numbers::MANIFOLDS;
+use case_draws::numbers::PROPOSAL_COUNT;
+use case_draws::numbers::PROPOSAL_HOOK;
+use case_draws::numbers::PROPOSAL_MANIFOLDS;
+use case_draws::numbers::PROPOSAL_SIZE;
+use case_draws::numbers::PROPOSED_MANIFOLD_COUNT;
+use case_draws::numbers::PROPOSED_MANIFOLD_NORMAL;
+use case_draws::numbers::PROPOSED_MANIFOLD_POINTS;
+use case_draws::numbers::PROPOSED_MANIFOLD_SIZE;
+use case_draws::numbers::PROPOSED_POINT_FEATURE2;
+use case_draws::numbers::PROPOSED_POINT_FEATURES;
+use case_draws::numbers::PROPOSED_POINT_PENETRATION;
+use case_draws::numbers::PROPOSED_POINT_SIZE;
+use case_draws::numbers::PROPOSED_POINTS;
 use case_draws::places::put;
 use case_draws::places::word;
 
@@ -38,50 +55,73 @@ const PENETRATIONS: [u32; 8] = [
 // A feature is at times unknown.
 fn point_word(key: u32, j: u32) -> u32 {
     match j {
-        9 => PENETRATIONS[(draw(key, 9) % 8) as usize],
-        10 | 11 => draw(key, j) / 8 % 6,
+        PROPOSED_POINT_PENETRATION => PENETRATIONS[(draw(key, j) % 8) as usize],
+        PROPOSED_POINT_FEATURES | PROPOSED_POINT_FEATURE2 => draw(key, j) / 8 % 6,
         _ => float(key, j),
     }
 }
 
-// 0 to 7, so that some are pruned; at times 32.
+// 0 to 7, so that some are pruned; at times the most.
 fn point_count(key: u32) -> u32 {
-    let d = draw(key, 0);
-    if d % 16 == 0 { 32 } else { d / 16 % 8 }
-}
-
-fn manifold_word(key: u32, i: u32) -> u32 {
-    let k = past(i, 4);
-    match i {
-        0 => point_count(key),
-        1..=3 => NORMALS[(draw(key, 1) % 4 * 3 + past(i, 1) % 3) as usize],
-        _ => point_word(draw(key, slot(100, k / 12)), k % 12),
+    let d = draw(key, PROPOSED_MANIFOLD_COUNT);
+    if d % 16 == 0 {
+        PROPOSED_POINTS
+    } else {
+        d / 16 % 8
     }
 }
 
-// 0 to 3; at times 5, and 7 in one of 64.
+fn normal_word(key: u32, axis: u32) -> u32 {
+    NORMALS[(draw(key, PROPOSED_MANIFOLD_NORMAL) % 4 * 3 + axis % 3) as usize]
+}
+
+fn manifold_word(key: u32, i: u32) -> u32 {
+    let k = past(i, PROPOSED_MANIFOLD_POINTS);
+    match i {
+        PROPOSED_MANIFOLD_COUNT => point_count(key),
+        PROPOSED_MANIFOLD_NORMAL..PROPOSED_MANIFOLD_POINTS => normal_word(
+            key,
+            past(i, PROPOSED_MANIFOLD_NORMAL),
+        ),
+        _ => point_word(
+            draw(key, slot(100, k / PROPOSED_POINT_SIZE)),
+            k % PROPOSED_POINT_SIZE,
+        ),
+    }
+}
+
+const TOO_MANY_MANIFOLDS: u32 = MANIFOLDS + 1;
+
+// 0 to 3; at times 5, and too many in one of 64.
 fn manifold_count(key: u32) -> u32 {
-    let d = draw(key, 1);
+    let d = draw(key, PROPOSAL_COUNT);
     match d % 64 {
-        0 => 7,
+        0 => TOO_MANY_MANIFOLDS,
         1..=8 => 5,
         _ => d / 64 % 4,
     }
 }
 
 fn proposal_word(key: u32, i: u32) -> u32 {
-    let k = past(i, 2);
+    let k = past(i, PROPOSAL_MANIFOLDS);
     match i {
-        0 => all_but_one_in(key, 0, 4),
-        1 => manifold_count(key),
-        _ => manifold_word(draw(key, slot(100, k / 388)), k % 388),
+        PROPOSAL_HOOK => all_but_one_in(key, i, 4),
+        PROPOSAL_COUNT => manifold_count(key),
+        _ => manifold_word(
+            draw(key, slot(100, k / PROPOSED_MANIFOLD_SIZE)),
+            k % PROPOSED_MANIFOLD_SIZE,
+        ),
     }
 }
 
 fn fill_proposal(proposals: &mut [u32], id: u32, key: u32) {
     let mut i = 0;
-    while i < 2330 {
-        put(proposals, id % 8 * 2330 + i, proposal_word(key, i));
+    while i < PROPOSAL_SIZE {
+        put(
+            proposals,
+            id % CAPACITY * PROPOSAL_SIZE + i,
+            proposal_word(key, i),
+        );
         i += 1;
     }
 }
@@ -95,10 +135,10 @@ fn propose(proposals: &mut [u32], id: u32, key: u32) {
 }
 
 pub fn fill_proposals(proposals: &mut [u32], row: &[u32], key: u32) {
-    let listed = word(row, 2);
+    let listed = word(row, GRAPH_LISTED);
     let mut p = 0;
     while p < listed {
-        propose(proposals, word(row, slot(4, p)), key);
+        propose(proposals, word(row, slot(GRAPH_LIST, p)), key);
         p += 1;
     }
 }

@@ -6,8 +6,38 @@ use crate::draws::float;
 use crate::draws::one_in;
 use case_draws::draws::past;
 use case_draws::draws::slot;
+use case_draws::numbers::BODY_CENTER_OF_MASS;
+use case_draws::numbers::BODY_FRICTION;
+use case_draws::numbers::BODY_MARGIN;
+use case_draws::numbers::BODY_POSITION;
+use case_draws::numbers::BODY_PRESENT;
+use case_draws::numbers::BODY_ROTATION;
+use case_draws::numbers::BODY_SIZE;
+use case_draws::numbers::BODY_SPECULATIVE_MAXIMUM;
+use case_draws::numbers::BODY_STATIC;
+use case_draws::numbers::COLLIDER_BODY;
+use case_draws::numbers::COLLIDER_BODY_NUMBER;
+use case_draws::numbers::COLLIDER_FILTERS;
+use case_draws::numbers::COLLIDER_FRICTION;
+use case_draws::numbers::COLLIDER_LOWER;
+use case_draws::numbers::COLLIDER_MARGIN;
+use case_draws::numbers::COLLIDER_MEMBERSHIPS;
+use case_draws::numbers::COLLIDER_POSITION;
+use case_draws::numbers::COLLIDER_PRESENT;
+use case_draws::numbers::COLLIDER_RESTITUTION;
+use case_draws::numbers::COLLIDER_SENSOR;
+use case_draws::numbers::COLLIDER_SIZE;
+use case_draws::numbers::COLLIDER_UPPER;
+use case_draws::numbers::SETTINGS_FRICTION;
+use case_draws::numbers::SETTINGS_LENGTH;
+use case_draws::numbers::SETTINGS_MATCH_CONTACTS;
+use case_draws::numbers::SETTINGS_RECYCLE_COSINE;
+use case_draws::numbers::SETTINGS_RESTITUTION;
+use case_draws::numbers::SETTINGS_STEP_TIME;
 use case_draws::places::put;
 use case_draws::places::word;
+use layout::limits::BODIES;
+use layout::limits::COLLIDERS;
 use math::bits::bits_of;
 use math::bits::float_of;
 
@@ -70,12 +100,19 @@ fn rule(key: u32, choice: u32) -> u32 {
     1 + draw(key, choice) % 5
 }
 
+fn first_setting(key: u32, j: u32) -> u32 {
+    SETTINGS[(draw(key, SETTINGS_STEP_TIME) % 3 * 4 + j % 4) as usize]
+}
+
 fn setting_word(key: u32, i: u32) -> u32 {
     match i {
-        0..=3 => SETTINGS[(draw(key, 0) % 3 * 4 + i % 4) as usize],
-        4 => 0x3f7d_70a4,
-        5 => all_but_one_in(key, 5, 4),
-        6 | 8 => coefficient(key, i),
+        SETTINGS_STEP_TIME..SETTINGS_RECYCLE_COSINE => first_setting(
+            key,
+            past(i, SETTINGS_STEP_TIME),
+        ),
+        SETTINGS_RECYCLE_COSINE => 0x3f7d_70a4,
+        SETTINGS_MATCH_CONTACTS => all_but_one_in(key, i, 4),
+        SETTINGS_FRICTION | SETTINGS_RESTITUTION => coefficient(key, i),
         _ => rule(key, i),
     }
 }
@@ -91,7 +128,7 @@ fn coefficient_word(key: u32, at: u32, j: u32) -> u32 {
 
 // An end of the box on an axis: from -1 to 1 on most, else from 2 to 4.
 fn end_word(key: u32, axis: u32, near: u32, far: u32) -> u32 {
-    if draw(key, slot(3, axis)) % 40 == 0 {
+    if draw(key, slot(COLLIDER_LOWER, axis)) % 40 == 0 {
         far
     } else {
         near
@@ -110,10 +147,20 @@ fn filters(d: u32) -> u32 {
 // Box, position, memberships, filters.
 fn place_word(key: u32, i: u32) -> u32 {
     match i {
-        3..=5 => end_word(key, past(i, 3), 0xbf80_0000, 0x4000_0000),
-        6..=8 => end_word(key, past(i, 6), 0x3f80_0000, 0x4080_0000),
-        12 => slot(one_in(key, 12, 40), 1),
-        13 => filters(draw(key, 13)),
+        COLLIDER_LOWER..COLLIDER_UPPER => end_word(
+            key,
+            past(i, COLLIDER_LOWER),
+            0xbf80_0000,
+            0x4000_0000,
+        ),
+        COLLIDER_UPPER..COLLIDER_POSITION => end_word(
+            key,
+            past(i, COLLIDER_UPPER),
+            0x3f80_0000,
+            0x4080_0000,
+        ),
+        COLLIDER_MEMBERSHIPS => slot(one_in(key, i, 40), 1),
+        COLLIDER_FILTERS => filters(draw(key, i)),
         _ => float(key, i),
     }
 }
@@ -121,52 +168,60 @@ fn place_word(key: u32, i: u32) -> u32 {
 // Friction, restitution, margin, the mark `sensor`.
 fn surface_word(key: u32, i: u32) -> u32 {
     match i {
-        14..=16 => coefficient_word(key, 14, past(i, 14)),
-        17..=19 => coefficient_word(key, 17, past(i, 17)),
-        20 => one_in(key, 20, 3),
-        21 => coefficient(key, 21),
-        _ => one_in(key, 22, 12),
+        COLLIDER_FRICTION..COLLIDER_RESTITUTION => coefficient_word(
+            key,
+            COLLIDER_FRICTION,
+            past(i, COLLIDER_FRICTION),
+        ),
+        COLLIDER_RESTITUTION..COLLIDER_MARGIN => coefficient_word(
+            key,
+            COLLIDER_RESTITUTION,
+            past(i, COLLIDER_RESTITUTION),
+        ),
+        COLLIDER_MARGIN => one_in(key, i, 3),
+        COLLIDER_MARGIN..COLLIDER_SENSOR => coefficient(key, i),
+        _ => one_in(key, COLLIDER_SENSOR, 12),
     }
 }
 
 fn collider_word(key: u32, n: u32, i: u32) -> u32 {
     match i {
-        0 => all_but_one_in(key, 0, 32),
-        1 => all_but_one_in(key, 1, 8),
-        2 => n % 128,
-        3..=13 => place_word(key, i),
+        COLLIDER_PRESENT => all_but_one_in(key, i, 32),
+        COLLIDER_BODY => all_but_one_in(key, i, 8),
+        COLLIDER_BODY_NUMBER => n % BODIES,
+        COLLIDER_LOWER..COLLIDER_FRICTION => place_word(key, i),
         _ => surface_word(key, i),
     }
 }
 
 fn rotation_word(key: u32, j: u32) -> u32 {
-    ROTATIONS[(draw(key, 5) % 4 * 4 + j % 4) as usize]
+    ROTATIONS[(draw(key, BODY_ROTATION) % 4 * 4 + j % 4) as usize]
 }
 
 // Friction, margin, speculative maximum, sweep radius.
 fn body_surface_word(key: u32, i: u32) -> u32 {
     match i {
-        18..=20 => coefficient_word(key, 18, past(i, 18)),
-        21 => one_in(key, 21, 3),
-        22 => coefficient(key, 22),
-        23 => one_in(key, 23, 2),
+        BODY_FRICTION..BODY_MARGIN => coefficient_word(key, BODY_FRICTION, past(i, BODY_FRICTION)),
+        BODY_MARGIN => one_in(key, i, 3),
+        BODY_MARGIN..BODY_SPECULATIVE_MAXIMUM => coefficient(key, i),
+        BODY_SPECULATIVE_MAXIMUM => one_in(key, i, 2),
         _ => float(key, i),
     }
 }
 
 fn body_word(key: u32, i: u32) -> u32 {
     match i {
-        0 => all_but_one_in(key, 0, 16),
-        1 => one_in(key, 1, 4),
-        5..=8 => rotation_word(key, past(i, 5)),
-        18..=25 => body_surface_word(key, i),
+        BODY_PRESENT => all_but_one_in(key, i, 16),
+        BODY_STATIC => one_in(key, i, 4),
+        BODY_ROTATION..BODY_CENTER_OF_MASS => rotation_word(key, past(i, BODY_ROTATION)),
+        BODY_FRICTION..BODY_SIZE => body_surface_word(key, i),
         _ => float(key, i),
     }
 }
 
 pub fn fill_settings(settings: &mut [u32], key: u32) {
     let mut i = 0;
-    while i < 10 {
+    while i < SETTINGS_LENGTH {
         put(settings, i, setting_word(key, i));
         i += 1;
     }
@@ -174,10 +229,10 @@ pub fn fill_settings(settings: &mut [u32], key: u32) {
 
 fn fill_collider(colliders: &mut [u32], key: u32, n: u32) {
     let mut i = 0;
-    while i < 23 {
+    while i < COLLIDER_SIZE {
         put(
             colliders,
-            n % 256 * 23 + i,
+            n % COLLIDERS * COLLIDER_SIZE + i,
             collider_word(draw(key, slot(10, n)), n, i),
         );
         i += 1;
@@ -186,10 +241,10 @@ fn fill_collider(colliders: &mut [u32], key: u32, n: u32) {
 
 fn fill_body(bodies: &mut [u32], key: u32, n: u32) {
     let mut i = 0;
-    while i < 26 {
+    while i < BODY_SIZE {
         put(
             bodies,
-            n % 128 * 26 + i,
+            n % BODIES * BODY_SIZE + i,
             body_word(draw(key, slot(20, n)), i),
         );
         i += 1;
@@ -198,10 +253,10 @@ fn fill_body(bodies: &mut [u32], key: u32, n: u32) {
 
 // One in two words of the positions is moved.
 fn move_body(bodies: &mut [u32], key: u32, n: u32) {
-    let mut i = 2;
-    while i < 5 {
+    let mut i = BODY_POSITION;
+    while i < BODY_ROTATION {
         let d = draw(draw(key, slot(20, n)), i);
-        let at = n % 128 * 26 + i;
+        let at = n % BODIES * BODY_SIZE + i;
         let by = if d % 2 == 0 {
             MOVES[(d / 2 % 4) as usize]
         } else {

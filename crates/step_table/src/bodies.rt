@@ -1,10 +1,14 @@
 // Bodies that move.
 use crate::choices::choice;
-use crate::given::BODIES;
+use crate::given::BODIES_PLACE;
 use case_draws::draws::draw;
 use case_draws::draws::low;
 use case_draws::draws::slot;
 use case_draws::draws::style;
+use case_draws::numbers::BODY_CENTER_OF_MASS;
+use case_draws::numbers::BODY_POSITION;
+use case_draws::numbers::BODY_ROTATION;
+use case_draws::numbers::BODY_SIZE;
 use case_draws::places::put;
 use case_draws::places::word;
 use math::bits::bits_of;
@@ -53,18 +57,22 @@ fn moved_rotation(d: u32, wild: bool, w: u32) -> u32 {
 // One in four parts of the position is moved, and one in eight of the rotation.
 fn moved_word(owner: u32, i: u32, wild: bool, w: u32) -> u32 {
     let d = choice(owner, slot(80, i));
-    if i < 5 {
+    if i < BODY_ROTATION {
         moved_position(d, wild, w)
     } else {
         moved_rotation(d, wild, w)
     }
 }
 
+const BODIES_START: u64 = BODIES_PLACE as u64;
+
+const BODY_WORDS: u64 = BODY_SIZE as u64;
+
 fn move_body(given: &mut [u32], n: u32, wild: bool, call: u32) {
     let owner = draw(call, slot(20, n));
-    let mut i = 2;
-    while i < 9 {
-        let at = low(BODIES + 26 * n as u64 + i as u64) as u32;
+    let mut i = BODY_POSITION;
+    while i < BODY_CENTER_OF_MASS {
+        let at = low(BODIES_START + BODY_WORDS * n as u64 + i as u64) as u32;
         put(given, at, moved_word(owner, i, wild, word(given, at)));
         i += 1;
     }

@@ -3,7 +3,15 @@ use crate::choices::Kind;
 use crate::choices::call_count;
 use crate::choices::call_key;
 use crate::choices::kind_of;
+use crate::given::BITS_LENGTH;
+use crate::given::BODIES_PLACE;
+use crate::given::CHANGES_LENGTH;
+use crate::given::COLLIDERS_PLACE;
+use crate::given::DISTANCES_LENGTH;
+use crate::given::EVENTS_LENGTH;
 use crate::given::GIVEN_LENGTH;
+use crate::given::PROPOSALS_PLACE;
+use crate::given::SETTINGS_PLACE;
 use crate::graph::hash_of;
 use crate::impulses::write_impulses;
 use crate::proposal_draws::fill_proposals;
@@ -20,6 +28,10 @@ use case_draws::line::print_number;
 use case_draws::line::print_word;
 use contact_graph::add::AddAnswer;
 use contact_graph::add::add;
+use layout::change::CHANGE_SIZE;
+use layout::event::EVENT_SIZE;
+use layout::proposal::PROPOSAL_SIZE;
+use layout::shares::SHARES_ENTRIES;
 use step::answer::StepAnswer;
 use step::answer::StepReport;
 use step::step::step;
@@ -40,19 +52,19 @@ pub struct Told {
 
 // What the steps have written beside the graph.
 pub struct Held {
-    pub bits: [u64; 8],
-    pub events: [u32; 512],
-    pub changes: [u32; 320],
-    pub distances: [u32; 64],
+    pub bits: [u64; BITS_LENGTH],
+    pub events: [u32; EVENTS_LENGTH],
+    pub changes: [u32; CHANGES_LENGTH],
+    pub distances: [u32; DISTANCES_LENGTH],
     pub told: Told,
 }
 
 fn nothing_held() -> Held {
     Held {
-        bits: [0u64; 8],
-        events: [0u32; 512],
-        changes: [0u32; 320],
-        distances: [0u32; 64],
+        bits: [0u64; BITS_LENGTH],
+        events: [0u32; EVENTS_LENGTH],
+        changes: [0u32; CHANGES_LENGTH],
+        distances: [0u32; DISTANCES_LENGTH],
         told: Told {
             events: 0,
             changes: 0,
@@ -110,6 +122,15 @@ fn draw_given(given: &mut [u32], graph: &[u32], colliders: u32, call: u32) {
     fill_shares(given, graph, call);
 }
 
+// Where the rows that are read begin.
+const SETTINGS_START: usize = SETTINGS_PLACE as usize;
+
+const COLLIDERS_START: usize = COLLIDERS_PLACE as usize;
+
+const BODIES_START: usize = BODIES_PLACE as usize;
+
+const PROPOSALS_START: usize = PROPOSALS_PLACE as usize;
+
 // Of each row, what the capacity asks for is lent; those that are read stand in one, at the places that given.rt has.
 fn print_made(given: &[u32], graph: &mut [u32], capacity: u32, held: Held) -> Held {
     let mut bits = held.bits;
@@ -117,21 +138,21 @@ fn print_made(given: &[u32], graph: &mut [u32], capacity: u32, held: Held) -> He
     let mut changes = held.changes;
     let mut distances = held.distances;
     let n = capacity as usize;
-    if 64 < n {
+    if DISTANCES_LENGTH < n {
         return held;
     }
     if given.len() < GIVEN_LENGTH {
         return held;
     }
-    let shared = 9 + n;
-    let proposed = 9299 + 2330 * n;
-    let told = 8 * n;
-    let changed = 5 * n;
+    let shared = SHARES_ENTRIES + n;
+    let proposed = PROPOSALS_START + PROPOSAL_SIZE * n;
+    let told = EVENT_SIZE * n;
+    let changed = CHANGE_SIZE * n;
     let answer = step(
-        &given[73..83],
-        &given[83..5971],
-        &given[5971..9299],
-        &given[9299..proposed],
+        &given[SETTINGS_START..COLLIDERS_START],
+        &given[COLLIDERS_START..BODIES_START],
+        &given[BODIES_START..PROPOSALS_START],
+        &given[PROPOSALS_START..proposed],
         &given[..shared],
         graph,
         &mut bits,
@@ -160,8 +181,18 @@ fn print_hashes(graph: &[u32], capacity: u32, held: Held) {
     let distances = held.distances;
     let told = held.told;
     print_word(hash_of(graph));
-    print_word(add_words(&events, 0, low(8 * told.events as u64) as u32, START));
-    print_word(add_words(&changes, 0, low(5 * told.changes as u64) as u32, START));
+    print_word(add_words(
+        &events,
+        0,
+        low(EVENT_SIZE as u64 * told.events as u64) as u32,
+        START,
+    ));
+    print_word(add_words(
+        &changes,
+        0,
+        low(CHANGE_SIZE as u64 * told.changes as u64) as u32,
+        START,
+    ));
     print_word(add_words(&distances, 0, capacity, START));
     print_end();
 }

@@ -1,5 +1,6 @@
 // The choices that the lists are made of, beside the draws of what is in the rows.
 ghost use Prim.Native.Nat.{_≤_};
+use crate::given::LARGEST;
 use case_draws::draws::draw;
 use case_draws::draws::slot;
 
@@ -27,17 +28,17 @@ pub fn list_key(l: u32) -> u32 {
     choice(l, 2)
 }
 
-// 64 in one list of ten, else 1 to 8.
+// The largest in one list of ten, else 1 to 8.
 pub fn capacity(list: u32) -> u32
     ensures { λ r. ⌜ r ≤ 64 ⌝ }
 {
     let d = choice(list, 60);
-    if d % 10 == 0 { 64 } else { 1 + d / 10 % 8 }
+    if d % 10 == 0 { LARGEST } else { 1 + d / 10 % 8 }
 }
 
 // How many colliders, and bodies, are drawn.
 pub fn collider_count(list: u32, capacity: u32) -> u32 {
-    if capacity == 64 {
+    if capacity == LARGEST {
         6
     } else {
         4 + choice(list, 61) % 3
@@ -60,7 +61,7 @@ pub enum Kind {
 
 // A list begins with additions.
 fn first_additions(capacity: u32) -> u32 {
-    if capacity == 64 { 10 } else { 2 }
+    if capacity == LARGEST { 10 } else { 2 }
 }
 
 pub fn kind_of(call: u32, n: u32, capacity: u32) -> Kind {

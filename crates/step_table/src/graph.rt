@@ -8,40 +8,54 @@ use case_draws::hash::START;
 use case_draws::hash::add_record;
 use case_draws::hash::add_word;
 use case_draws::hash::add_words;
+use case_draws::numbers::GRAPH_CAPACITY;
+use case_draws::numbers::GRAPH_FREED;
+use case_draws::numbers::GRAPH_GIVEN;
+use case_draws::numbers::GRAPH_IDS;
+use case_draws::numbers::GRAPH_LIST;
+use case_draws::numbers::GRAPH_LISTED;
+use case_draws::numbers::GRAPH_LISTS;
 use case_draws::places::word;
-
-const CONTACT_SIZE: usize = 523;
+use layout::contact::CONTACT_SIZE;
 
 pub fn listed(graph: &[u32]) -> u32 {
-    word(graph, 2)
+    word(graph, GRAPH_LISTED)
 }
 
 pub fn listed_id(graph: &[u32], q: u32) -> u32 {
-    word(graph, slot(4, q))
+    word(graph, slot(GRAPH_LIST, q))
 }
 
 fn free_place(graph: &[u32]) -> u32 {
-    slot(4, word(graph, 0))
+    let capacity = word(graph, GRAPH_CAPACITY);
+    low(GRAPH_LIST as u64 + GRAPH_LISTS as u64 * capacity as u64) as u32
 }
 
+const RECORDS_HEAD: u64 = GRAPH_LIST as u64;
+
+const RECORDS_IDS: u64 = GRAPH_IDS as u64;
+
+const RECORD_SIZE: u64 = CONTACT_SIZE as u64;
+
 pub fn record_place(graph: &[u32], id: u32) -> u32 {
-    low(4 + 2 * word(graph, 0) as u64 + 523 * id as u64) as u32
+    let capacity = word(graph, GRAPH_CAPACITY);
+    low(RECORDS_HEAD + RECORDS_IDS * capacity as u64 + RECORD_SIZE * id as u64) as u32
 }
 
 // The id freed last, else the number of ids given.
 fn last_freed(graph: &[u32]) -> u32 {
-    let freed = word(graph, 3);
+    let freed = word(graph, GRAPH_FREED);
     if freed == 0 {
-        return word(graph, 1);
+        return word(graph, GRAPH_GIVEN);
     }
     word(graph, slot(free_place(graph), past(freed, 1)))
 }
 
 // An id that is not active.
-pub fn stray(graph: &[u32], call: u32) -> u32 {
+pub fn inactive_id(graph: &[u32], call: u32) -> u32 {
     match choice(call, 69) % 3 {
         0 => last_freed(graph),
-        1 => word(graph, 1),
+        1 => word(graph, GRAPH_GIVEN),
         _ => NO_NUMBER,
     }
 }
@@ -69,9 +83,10 @@ fn add_contacts(graph: &[u32], before: u32) -> u32 {
 
 // Capacity, ids given, free ids, listed pairs.
 pub fn hash_of(graph: &[u32]) -> u32 {
-    let counts = add_words(graph, 0, 2, START);
-    let counted = add_words(graph, 3, 1, counts);
-    let freed = add_words(graph, free_place(graph), word(graph, 3), counted);
-    let paired = add_words(graph, 2, 1, freed);
+    let capacity = add_words(graph, GRAPH_CAPACITY, 1, START);
+    let given = add_words(graph, GRAPH_GIVEN, 1, capacity);
+    let counted = add_words(graph, GRAPH_FREED, 1, given);
+    let freed = add_words(graph, free_place(graph), word(graph, GRAPH_FREED), counted);
+    let paired = add_words(graph, GRAPH_LISTED, 1, freed);
     add_contacts(graph, paired)
 }

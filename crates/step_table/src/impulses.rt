@@ -8,6 +8,15 @@ use case_draws::draws::low;
 use case_draws::draws::one_in;
 use case_draws::draws::slot;
 use case_draws::draws::style;
+use case_draws::numbers::CONTACT_FIRST_MANIFOLD;
+use case_draws::numbers::CONTACT_MANIFOLDS;
+use case_draws::numbers::MANIFOLD_POINTS;
+use case_draws::numbers::MANIFOLD_SIZE;
+use case_draws::numbers::POINT_NORMAL_IMPULSE;
+use case_draws::numbers::POINT_SIZE;
+use case_draws::numbers::POINT_WARM_START_NORMAL_IMPULSE;
+use case_draws::numbers::POINT_WARM_START_TANGENT_IMPULSE;
+use case_draws::numbers::POINT_WARM_START_TANGENT_IMPULSE_Y;
 use case_draws::places::put;
 use case_draws::places::word;
 
@@ -23,11 +32,35 @@ fn write_word(graph: &mut [u32], from: u32, place: u32, owner: u32) {
 }
 
 fn write_point(graph: &mut [u32], from: u32, point: u32, owner: u32) {
-    write_word(graph, from, slot(point, 11), owner);
-    write_word(graph, from, slot(point, 13), owner);
-    write_word(graph, from, slot(point, 14), owner);
-    write_word(graph, from, slot(point, 15), owner);
+    write_word(graph, from, slot(point, POINT_NORMAL_IMPULSE), owner);
+    write_word(
+        graph,
+        from,
+        slot(point, POINT_WARM_START_NORMAL_IMPULSE),
+        owner,
+    );
+    write_word(
+        graph,
+        from,
+        slot(point, POINT_WARM_START_TANGENT_IMPULSE),
+        owner,
+    );
+    write_word(
+        graph,
+        from,
+        slot(point, POINT_WARM_START_TANGENT_IMPULSE_Y),
+        owner,
+    );
 }
+
+// Where a manifold's points begin, and a record's manifolds, and the words of each.
+const POINTS_PLACE: u64 = MANIFOLD_POINTS as u64;
+
+const POINT_WORDS: u64 = POINT_SIZE as u64;
+
+const MANIFOLDS_PLACE: u64 = CONTACT_FIRST_MANIFOLD as u64;
+
+const MANIFOLD_WORDS: u64 = MANIFOLD_SIZE as u64;
 
 fn write_manifold(graph: &mut [u32], from: u32, manifold: u32, owner: u32) {
     let count = word(graph, slot(from, manifold));
@@ -36,7 +69,7 @@ fn write_manifold(graph: &mut [u32], from: u32, manifold: u32, owner: u32) {
         write_point(
             graph,
             from,
-            low(9 + manifold as u64 + 18 * q as u64) as u32,
+            low(POINTS_PLACE + manifold as u64 + POINT_WORDS * q as u64) as u32,
             owner,
         );
         q += 1;
@@ -44,10 +77,15 @@ fn write_manifold(graph: &mut [u32], from: u32, manifold: u32, owner: u32) {
 }
 
 fn write_record(graph: &mut [u32], from: u32, owner: u32) {
-    let count = word(graph, slot(from, 36));
+    let count = word(graph, slot(from, CONTACT_MANIFOLDS));
     let mut m = 0;
     while m < count {
-        write_manifold(graph, from, low(37 + 81 * m as u64) as u32, owner);
+        write_manifold(
+            graph,
+            from,
+            low(MANIFOLDS_PLACE + MANIFOLD_WORDS * m as u64) as u32,
+            owner,
+        );
         m += 1;
     }
 }

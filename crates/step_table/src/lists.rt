@@ -2,13 +2,17 @@
 ghost use mathlib.Core.Path.{_≡_};
 ghost use Prim.Native.Nat.{_≤_};
 ghost use lib.ListN.{length};
+ghost use Rattle.layout.specs.Graph.{graphLength};
 use crate::calls::List;
 use crate::calls::print_calls;
 use crate::choices::capacity;
 use crate::choices::collider_count;
 use crate::choices::list_key;
 use crate::given::GIVEN_LENGTH;
+use crate::given::GRAPH_LENGTH;
 use crate::row_draws::fill_rows;
+use case_draws::numbers::GRAPH_CONTACT_SIZE;
+use case_draws::numbers::GRAPH_LIST;
 use contact_graph::lay_out::clear;
 use contact_graph::lay_out::lay_out;
 
@@ -38,18 +42,22 @@ fn print_whole(given: &mut [u32], graph: &mut [u32], list: List) {
     print_calls(given, graph, list);
 }
 
+const GRAPH_HEAD: usize = GRAPH_LIST as usize;
+
+const CONTACT_WORDS: usize = GRAPH_CONTACT_SIZE as usize;
+
 // Of the graph's row, what the list's capacity asks for is lent on.
 fn print_list(given: &mut [u32], graph: &mut [u32], l: u32)
-    requires { ⌜ length (now graph) ≡ 33604 ⌝ }
+    requires { ⌜ length (now graph) ≡ graphLength 64 ⌝ }
 {
     let list = list_of(l);
     let capacity = list.capacity as usize;
-    let recorded = 4 + 525 * capacity;
+    let recorded = GRAPH_HEAD + CONTACT_WORDS * capacity;
     print_whole(given, &mut graph[..recorded], list);
 }
 
 fn print_each(given: &mut [u32], graph: &mut [u32])
-    requires { ⌜ length (now graph) ≡ 33604 ⌝ }
+    requires { ⌜ length (now graph) ≡ graphLength 64 ⌝ }
 {
     let mut l = 0;
     while l < LISTS {
@@ -58,9 +66,9 @@ fn print_each(given: &mut [u32], graph: &mut [u32])
     }
 }
 
-// Rows for a capacity of 64.
+// Rows for the largest capacity.
 pub fn print_lists() {
     let mut given = [0u32; GIVEN_LENGTH];
-    let mut graph = [0u32; 33604];
+    let mut graph = [0u32; GRAPH_LENGTH];
     print_each(&mut given, &mut graph);
 }

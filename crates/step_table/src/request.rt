@@ -5,13 +5,20 @@ use case_draws::draws::past;
 use case_draws::draws::slot;
 use case_draws::speculative::speculative_word;
 use contact_graph::call::Request;
+use layout::limits::BODIES;
+use layout::limits::COLLIDERS;
 use math::bits::float_of;
+
+// The last two are absent.
+const ABSENT1: u32 = COLLIDERS - 2;
+
+const ABSENT2: u32 = COLLIDERS - 1;
 
 // At times one that is absent.
 fn collider1(call: u32, colliders: u32) -> u32 {
     let d = choice(call, 70);
     if d % 40 == 0 {
-        254
+        ABSENT1
     } else {
         below(d / 40, colliders)
     }
@@ -21,7 +28,7 @@ fn collider1(call: u32, colliders: u32) -> u32 {
 fn collider2(call: u32, colliders: u32, first: u32) -> u32 {
     let d = choice(call, 71);
     match d % 40 {
-        0 => 255,
+        0 => ABSENT2,
         1..=3 => first,
         _ => below(
             slot(slot(first, 1), below(d / 40, past(colliders, 1))),
@@ -38,7 +45,7 @@ fn mark(call: u32, slot: u32) -> u32 {
 // Behind a mark of 0 any word.
 fn body(call: u32, slot: u32, mark: u32) -> u32 {
     let d = choice(call, slot);
-    if mark == 1 { d % 128 } else { d }
+    if mark == 1 { d % BODIES } else { d }
 }
 
 pub fn request(call: u32, colliders: u32) -> Request {

@@ -2,18 +2,21 @@
 use crate::bodies::move_bodies;
 use crate::choices::below;
 use crate::choices::choice;
-use crate::given::BODIES;
-use crate::given::COLLIDERS;
-use crate::given::SETTINGS;
+use crate::given::BODIES_PLACE;
+use crate::given::COLLIDERS_PLACE;
+use crate::given::SETTINGS_PLACE;
 use case_draws::draws::low;
 use case_draws::fill::Drawn;
 use case_draws::fill::fill;
+use case_draws::numbers::BODY_SIZE;
+use case_draws::numbers::COLLIDER_SIZE;
+use case_draws::numbers::SETTINGS_LENGTH;
 
 fn fill_collider(given: &mut [u32], n: u32, key: u32) {
     fill(
         given,
-        low(COLLIDERS + 23 * n as u64) as u32,
-        23,
+        low(COLLIDERS_PLACE as u64 + COLLIDER_SIZE as u64 * n as u64) as u32,
+        COLLIDER_SIZE,
         Drawn::Collider(n),
         key,
     );
@@ -22,8 +25,8 @@ fn fill_collider(given: &mut [u32], n: u32, key: u32) {
 fn fill_body(given: &mut [u32], n: u32, key: u32) {
     fill(
         given,
-        low(BODIES + 26 * n as u64) as u32,
-        26,
+        low(BODIES_PLACE as u64 + BODY_SIZE as u64 * n as u64) as u32,
+        BODY_SIZE,
         Drawn::Body(n),
         key,
     );
@@ -46,7 +49,7 @@ fn fill_bodies(given: &mut [u32], count: u32, key: u32) {
 }
 
 pub fn fill_rows(given: &mut [u32], count: u32, key: u32) {
-    fill(given, SETTINGS, 10, Drawn::Settings, key);
+    fill(given, SETTINGS_PLACE, SETTINGS_LENGTH, Drawn::Settings, key);
     fill_colliders(given, count, key);
     fill_bodies(given, count, key);
 }
@@ -72,7 +75,13 @@ fn change_things(given: &mut [u32], count: u32, call: u32) {
 
 fn change_settings(given: &mut [u32], call: u32) {
     if choice(call, 61) % 8 == 0 {
-        fill(given, SETTINGS, 10, Drawn::Settings, call);
+        fill(
+            given,
+            SETTINGS_PLACE,
+            SETTINGS_LENGTH,
+            Drawn::Settings,
+            call,
+        );
     }
 }
 

@@ -5,6 +5,18 @@ use case_draws::draws::draw;
 use case_draws::draws::float;
 use case_draws::draws::low;
 use case_draws::draws::slot;
+use case_draws::numbers::BODY_POSITION;
+use case_draws::numbers::BODY_PRESENT;
+use case_draws::numbers::BODY_ROTATION;
+use case_draws::numbers::BODY_SIZE;
+use case_draws::numbers::CACHE_RELATIVE_ROTATION;
+use case_draws::numbers::CACHE_RELATIVE_TRANSLATION;
+use case_draws::numbers::CACHE_ROTATION1;
+use case_draws::numbers::CACHE_ROTATION2;
+use case_draws::numbers::CACHED_SIZE;
+use case_draws::numbers::COLLIDER_BODY;
+use case_draws::numbers::COLLIDER_SIZE;
+use case_draws::numbers::CONTACT_CACHED;
 use case_draws::places::put;
 use case_draws::places::word;
 use math::bits::bits_of;
@@ -37,39 +49,58 @@ const TURNS: [u32; 8] = [
     0x3f00_0000,
 ];
 
+// The i-th word of collider n.
+fn collider_place(n: u32, i: u32) -> u32 {
+    low(n as u64 * COLLIDER_SIZE as u64 + i as u64) as u32
+}
+
 // The i-th word of body n.
-fn part(bodies: &[u32], n: u32, i: u32) -> f32 {
-    float_of(word(bodies, low(n as u64 * 26 + i as u64) as u32))
+fn body_place(n: u32, i: u32) -> u32 {
+    low(n as u64 * BODY_SIZE as u64 + i as u64) as u32
+}
+
+// The j-th float from a place of body n on.
+fn part(bodies: &[u32], n: u32, from: u32, j: u32) -> f32 {
+    float_of(word(bodies, body_place(n, slot(from, j))))
 }
 
 fn body_pose(bodies: &[u32], n: u32) -> Pose {
     Pose {
         position: Vec3 {
-            x: part(bodies, n, 2),
-            y: part(bodies, n, 3),
-            z: part(bodies, n, 4),
+            x: part(bodies, n, BODY_POSITION, 0),
+            y: part(bodies, n, BODY_POSITION, 1),
+            z: part(bodies, n, BODY_POSITION, 2),
         },
         rotation: Quat {
-            x: part(bodies, n, 5),
-            y: part(bodies, n, 6),
-            z: part(bodies, n, 7),
-            w: part(bodies, n, 8),
+            x: part(bodies, n, BODY_ROTATION, 0),
+            y: part(bodies, n, BODY_ROTATION, 1),
+            z: part(bodies, n, BODY_ROTATION, 2),
+            w: part(bodies, n, BODY_ROTATION, 3),
         },
     }
 }
 
 // That of collider n's own body; an absent one is at the origin.
 fn pose(colliders: &[u32], bodies: &[u32], n: u32) -> Pose {
-    if word(colliders, low(n as u64 * 23 + 1) as u32) == 0 {
+    if word(colliders, collider_place(n, COLLIDER_BODY)) == 0 {
         return Pose::IDENTITY;
     }
-    if word(bodies, low(n as u64 * 26) as u32) == 0 {
+    if word(bodies, body_place(n, BODY_PRESENT)) == 0 {
         return Pose::IDENTITY;
     }
     body_pose(bodies, n)
 }
 
-fn cache_of(a: Pose, b: Pose) -> [u32; 15] {
+// The cache behind its mark: its words, where the second rotation, the translation and the rotation between them begin.
+const LENGTH: usize = CACHED_SIZE as usize;
+
+const ROTATION2: u32 = CACHE_ROTATION2 - CACHE_ROTATION1;
+
+const RELATIVE_TRANSLATION: u32 = CACHE_RELATIVE_TRANSLATION - CACHE_ROTATION1;
+
+const RELATIVE_ROTATION: u32 = CACHE_RELATIVE_ROTATION - CACHE_ROTATION1;
+
+fn cache_of(a: Pose, b: Pose) -> [u32; LENGTH] {
     let p = a.rotation;
     let q = b.rotation;
     let between = a.relative(b);
@@ -113,7 +144,7 @@ fn rotation_nudge(d: u32) -> u32 {
 // One in four parts of the translation is moved, and one in six of the rotation.
 fn nudge(owner: u32, j: u32) -> u32 {
     let d = draw(owner, slot(80, j));
-    if j < 11 {
+    if j < RELATIVE_ROTATION {
         translation_nudge(d)
     } else {
         rotation_nudge(d)
@@ -126,8 +157,8 @@ fn moved(owner: u32, j: u32, w: u32) -> u32 {
 
 // One in sixteen of the bodies' rotations is another.
 fn turned(owner: u32, j: u32, w: u32) -> u32 {
-    if draw(owner, slot(80, j / 4)) % 16 == 0 {
-        rotation(owner, slot(82, j / 4), j % 4)
+    if draw(owner, slot(80, j / ROTATION2)) % 16 == 0 {
+        rotation(owner, slot(82, j / ROTATION2), j % ROTATION2)
     } else {
         w
     }
@@ -138,14 +169,14 @@ fn cache_word(case: u32, j: u32, w: u32) -> u32 {
     if draw(owner, 79) % 16 == 0 {
         return float(owner, slot(80, j), 2);
     }
-    if j < 8 {
+    if j < RELATIVE_TRANSLATION {
         turned(owner, j, w)
     } else {
         moved(owner, j, w)
     }
 }
 
-fn drawn_cache(colliders: &[u32], bodies: &[u32], case: u32) -> [u32; 15] {
+fn drawn_cache(colliders: &[u32], bodies: &[u32], case: u32) -> [u32; LENGTH] {
     if swapped(draw(case, 40)) {
         cache_of(pose(colliders, bodies, 1), pose(colliders, bodies, 0))
     } else {
@@ -156,8 +187,12 @@ fn drawn_cache(colliders: &[u32], bodies: &[u32], case: u32) -> [u32; 15] {
 pub fn fill_cache(colliders: &[u32], bodies: &[u32], record: &mut [u32], case: u32) {
     let cache = drawn_cache(colliders, bodies, case);
     let mut j = 0;
-    while j < 15 {
-        put(record, 21 + j as u32, cache_word(case, j as u32, cache[j]));
+    while j < LENGTH {
+        put(
+            record,
+            CONTACT_CACHED + j as u32,
+            cache_word(case, j as u32, cache[j]),
+        );
         j += 1;
     }
 }

@@ -3,6 +3,11 @@ use collider::range::colliders_fit;
 use collider::settings::load_settings;
 use contact_range::range::contact_fits;
 use contact_update::record::update_record;
+use layout::body::BODIES_LENGTH;
+use layout::collider::COLLIDERS_LENGTH;
+use layout::contact::CONTACT_SIZE;
+use layout::proposal::PROPOSAL_SIZE;
+use layout::settings::SETTINGS_LENGTH;
 use proposals::proposal::proposal_fits;
 
 pub struct CaseOutcome {
@@ -29,19 +34,19 @@ pub fn run_case(
     proposal: &[u32],
     record: &mut [u32],
 ) -> CaseOutcome {
-    if settings.len() != 10 {
+    if settings.len() != SETTINGS_LENGTH {
         return CaseOutcome::REFUSED;
     }
-    if colliders.len() != 5888 {
+    if colliders.len() != COLLIDERS_LENGTH {
         return CaseOutcome::REFUSED;
     }
-    if bodies.len() != 3328 {
+    if bodies.len() != BODIES_LENGTH {
         return CaseOutcome::REFUSED;
     }
-    if proposal.len() != 2330 {
+    if proposal.len() != PROPOSAL_SIZE {
         return CaseOutcome::REFUSED;
     }
-    if record.len() != 523 {
+    if record.len() != CONTACT_SIZE {
         return CaseOutcome::REFUSED;
     }
     if !colliders_fit(colliders) {

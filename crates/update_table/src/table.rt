@@ -15,23 +15,36 @@ use case_draws::line::print_mark;
 use case_draws::line::print_name;
 use case_draws::line::print_number;
 use case_draws::line::print_word;
+use case_draws::numbers::BODY_SIZE;
+use case_draws::numbers::COLLIDER_SIZE;
+use case_draws::numbers::CONTACT_SIZE;
+use case_draws::numbers::PROPOSAL_SIZE;
+use case_draws::numbers::SETTINGS_LENGTH;
 use case_draws::places::put;
+use layout::body::BODIES_LENGTH;
+use layout::collider::COLLIDERS_LENGTH;
 use math::bits::bits_of;
 
 fn fill_colliders(colliders: &mut [u32], case: u32) {
-    fill(colliders, 0, 23, Drawn::Collider(0), case);
-    fill(colliders, 23, 23, Drawn::Collider(1), case);
+    fill(colliders, 0, COLLIDER_SIZE, Drawn::Collider(0), case);
+    fill(
+        colliders,
+        COLLIDER_SIZE,
+        COLLIDER_SIZE,
+        Drawn::Collider(1),
+        case,
+    );
 }
 
 fn fill_bodies(bodies: &mut [u32], case: u32) {
-    fill(bodies, 0, 26, Drawn::Body(0), case);
-    fill(bodies, 26, 26, Drawn::Body(1), case);
+    fill(bodies, 0, BODY_SIZE, Drawn::Body(0), case);
+    fill(bodies, BODY_SIZE, BODY_SIZE, Drawn::Body(1), case);
 }
 
 // All but the cache's words.
 fn fill_words(record: &mut [u32], case: u32) {
     let mut i = 0;
-    while i < 523 {
+    while i < CONTACT_SIZE {
         put(record, i, record_word(case, i));
         i += 1;
     }
@@ -50,10 +63,10 @@ fn fill_case(
     record: &mut [u32],
     case: u32,
 ) {
-    fill(settings, 0, 10, Drawn::Settings, case);
+    fill(settings, 0, SETTINGS_LENGTH, Drawn::Settings, case);
     fill_colliders(colliders, case);
     fill_bodies(bodies, case);
-    fill(proposal, 0, 2330, Drawn::Proposal, case);
+    fill(proposal, 0, PROPOSAL_SIZE, Drawn::Proposal, case);
     fill_record(colliders, bodies, record, case);
 }
 
@@ -99,11 +112,11 @@ fn print_each(
 }
 
 pub fn print_cases() {
-    let mut settings = [0u32; 10];
-    let mut colliders = [0u32; 5888];
-    let mut bodies = [0u32; 3328];
-    let mut proposal = [0u32; 2330];
-    let mut record = [0u32; 523];
+    let mut settings = [0u32; SETTINGS_LENGTH as usize];
+    let mut colliders = [0u32; COLLIDERS_LENGTH];
+    let mut bodies = [0u32; BODIES_LENGTH];
+    let mut proposal = [0u32; PROPOSAL_SIZE as usize];
+    let mut record = [0u32; CONTACT_SIZE as usize];
     print_each(
         &mut settings,
         &mut colliders,

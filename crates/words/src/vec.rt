@@ -20,15 +20,6 @@ pub fn load_vec3(g: &[u32], at: usize) -> Vec3
     }
 }
 
-pub fn store_vec3(g: &mut [u32], at: usize, v: Vec3)
-    requires { ⌜ at + 3 ≤ length (now g) ⌝ }
-    ensures { λ _. ⌜ now (g .exit) ≡ put (now (g .entry)) at (vec3Words v) ⌝ }
-{
-    store_float(g, at, v.x);
-    store_float(g, at + 1, v.y);
-    store_float(g, at + 2, v.z);
-}
-
 pub fn load_quat(g: &[u32], at: usize) -> Quat
     requires { ⌜ at + 4 ≤ length (now g) ⌝ }
     ensures { λ r. ⌜ r ≡ quatAt (now (g .entry)) at ⌝ }
@@ -39,14 +30,4 @@ pub fn load_quat(g: &[u32], at: usize) -> Quat
         z: load_float(g, at + 2),
         w: load_float(g, at + 3),
     }
-}
-
-pub fn store_quat(g: &mut [u32], at: usize, q: Quat)
-    requires { ⌜ at + 4 ≤ length (now g) ⌝ }
-    ensures { λ _. ⌜ now (g .exit) ≡ put (now (g .entry)) at (quatWords q) ⌝ }
-{
-    store_float(g, at, q.x);
-    store_float(g, at + 1, q.y);
-    store_float(g, at + 2, q.z);
-    store_float(g, at + 3, q.w);
 }

@@ -5,14 +5,15 @@ use mathlib.Core.Logic.{⊎-elim}
 use Prim.Native.Nat.{_≤_, _-_}
 use mathlib.Core.Path.{_≡_}
 use lib.ListN.{length}
+use Rattle.rules.specs.Limits.{mostContacts}
 use Rattle.contact_graph_table.proofs.sizes.fill.Statement.{statement}
 use Rattle.contact_graph_table.proofs.sizes.fill.Tie as tie
 
 abbrev Inv-loop : tie.InvT-loop
-Inv-loop graph₀ count₀ c₀ graph count c = (c ≤ 255) × (count ≤ c) × (length graph ≡ length graph₀)
+Inv-loop graph₀ count₀ c₀ graph count c = (c ≤ mostContacts - 1) × (count ≤ c) × (length graph ≡ length graph₀)
 
 abbrev μ-loop : tie.MeasureT-loop
-μ-loop graph₀ count₀ c₀ graph count c = 255 - c
+μ-loop graph₀ count₀ c₀ graph count c = mostContacts - 1 - c
 
 loop-again : tie.Need-loop-again Inv-loop μ-loop
 loop-again c = (search needs, ⊎-elim (λ w. omega arith) (λ w. omega arith) (c .if1 .came), search needs)
