@@ -2,10 +2,8 @@
 ghost use mathlib.Core.Path.{_≡_};
 ghost use Prim.Native.Nat.{_+_, _≤_};
 ghost use lib.ListN.{length};
-ghost use Rattle.rows.specs.Rows.{put};
-ghost use Rattle.words.specs.Words.{vec3At, vec3Words, quatAt, quatWords};
+ghost use Rattle.words.specs.Words.{vec3At, quatAt};
 use crate::row::load_float;
-use crate::row::store_float;
 use math::quat::Quat;
 use math::vec::Vec3;
 
