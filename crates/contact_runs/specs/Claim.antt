@@ -19,7 +19,7 @@
 -- and of calls through the C functions: `c-runs`, `called`.
 --
 -- What it rests on, in the order in which to read it: the plain run (rules: the map in Lib.antt, down to Runs.antt); what words record (contact_range: `graphOf`,
--- step: `inputs`); the promises of the calls (contact_graph: Promises.antt, step: Step.antt); and here Refusals.antt, Solver.antt, Ordered.antt, Runs.antt, Read.antt, Called.antt.
+-- step: `inputs`); the promises of the calls (contact_graph: Promises.antt, step: Step.antt, which rests on update_pass: Shared.antt and status_pass: Pass.antt); and here Refusals.antt, Solver.antt, Ordered.antt, Runs.antt, Read.antt, Called.antt.
 use Prim.Native.Nat.{ℕ}
 use mathlib.Core.Path.{_≡_}
 use mathlib.Core.Logic.{_⊎_, _≢_}
