@@ -13,11 +13,11 @@ use Rattle.words.specs.Words.{wordAt}
 use Rattle.layout.specs.Contact.{contactPairIndex, contactSize}
 use Rattle.contact_range.specs.Recorded.{capacityOf, givenOf, listedCount, freeCount, listedAt, freeAt, contactAt}
 use Rattle.contact_range.specs.Range.{contactFits, countsFit, listedGiven, namesBack, contactsFit, freeGiven, freeOnce, stands, isFree, freeApart, givenKnown, sameColliders, samePair, pairsOnce, InRange}
-use Rattle.contact_range.specs.RangeLaws.{holds, shown, counts, indexAt, back-at, fits-at, stands-at, stands-found, free-at, free-found, listed-given, listed-below, listed-index, listed-once, standing-given, free-given, free-not-standing, free-once, given-known, pair-once}
+use Rattle.contact_range.specs.RangeLaws.{holds, shown, counts, back-at, fits-at, stands-at, stands-found, free-at, free-found, listed-given, listed-below, listed-index, listed-once, standing-given, free-given, free-not-standing, free-once, given-known, pair-once}
 use Rattle.contact_graph.specs.IdLaws.{listed-not-free, given-sum}
 use Rattle.contact_graph.specs.EffectLaws.{RemoveEffect, differ, same-or-not}
 use Rattle.contact_range.specs.FitsLaws.{fits-same}
-use Rattle.contact_range.specs.Conditions.{Counts}
+use Rattle.contact_range.specs.Conditions.{Counts, indexAt}
 use Rattle.contact_graph.specs.AddKeepsLaws.{not-true, or-left, or-right}
 
 -- two numbers are equal either way round

@@ -6,7 +6,8 @@ use Prim.Native.Nat.{ℕ, _+_, _*_, _≤_, _<_}
 use lib.Dec.{ltb}
 use lib.ListN.{length}
 use Rattle.rules.specs.Limits.{mostContacts}
-use Rattle.layout.specs.Contact.{contactSize}
+use Rattle.words.specs.Words.{wordAt}
+use Rattle.layout.specs.Contact.{contactPairIndex, contactSize}
 use Rattle.layout.specs.Graph.{graphLength}
 use Rattle.data_structures.specs.BitVec.{bitAt}
 use Rattle.contact_range.specs.Recorded.{capacityOf, givenOf, listedCount, freeCount, contactAt}
@@ -27,6 +28,10 @@ pub record Counts (g : List ℕ) : Type 0 where
   pub given : givenOf g ≤ capacityOf g
   pub listed : listedCount g ≤ capacityOf g
   pub freed : freeCount g ≤ capacityOf g
+
+-- the place of the list that a contact's record names
+abbrev pub indexAt : List ℕ → ℕ → ℕ
+indexAt g id = wordAt g (contactAt g id + contactPairIndex)
 
 -- ---- what is known after the first conditions: lengths and counts
 pub record Counted (g : List ℕ) : Type 0 where
@@ -63,6 +68,10 @@ listedFits g = countsFit g && (listedGiven g && (namesBack g && contactsFit g))
 
 unfoldable pub freeFits : List ℕ → Bool
 freeFits g = freeGiven g && (freeOnce g && (freeApart g && givenKnown g))
+
+-- bit words for a mark of every pair of colliders
+abbrev pub pairBlocks : ℕ
+pairBlocks = 1024
 
 -- a number for a pair of colliders: the lower one times 256, and the higher
 abbrev pub pairNumber : ℕ → ℕ → ℕ

@@ -17,7 +17,7 @@ use Rattle.layout.specs.Graph.{graphLength}
 use Rattle.layout.specs.Manifold.{manifoldSize}
 use Rattle.contact_range.specs.Recorded.{capacityOf, givenOf, listedCount, freeCount, listedAt, freeAt, contactAt}
 use Rattle.contact_range.specs.Range.{rightLength, optionalFits, namesFit, marksFit, manifoldsFit, contactFits, countsFit, listedGiven, namesBack, contactsFit, freeGiven, freeOnce, stands, isFree, freeApart, givenKnown, samePair, pairsOnce, InRange, inRange}
-use Rattle.contact_range.specs.Conditions.{RightLength, Counts}
+use Rattle.contact_range.specs.Conditions.{RightLength, Counts, indexAt}
 
 -- ---- tests
 pub holds : (b : Bool) → T b → b ≡ true
@@ -113,10 +113,6 @@ pub counts : {g : List ℕ} → InRange g → Counts g
 counts {g} r = counts-fit (holds (countsFit g) (r .counts))
 
 -- ---- the list, from single conditions
--- the place in the list that a contact's record names
-abbrev pub indexAt : List ℕ → ℕ → ℕ
-indexAt g id = wordAt g (contactAt g id + contactPairIndex)
-
 pub given-at : (g : List ℕ) (p : ℕ) → listedGiven g ≡ true → p < listedCount g → listedAt g p < givenOf g
 unfolding listedGiven
 given-at g p e h = ltb-true (listedAt g p) (givenOf g) (every-at (λ q. ltb (listedAt g q) (givenOf g)) (listedCount g) p e h)

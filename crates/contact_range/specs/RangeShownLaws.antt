@@ -13,8 +13,8 @@ use Rattle.layout.specs.Contact.{contactBody1, contactBody2, contactCache, cont
 use Rattle.layout.specs.Manifold.{manifoldSize}
 use Rattle.contact_range.specs.Recorded.{capacityOf, givenOf, listedCount, freeCount, listedAt, freeAt, contactAt}
 use Rattle.contact_range.specs.Range.{rightLength, isMark, optionalFits, namesFit, marksFit, manifoldsFit, contactFits, countsFit, listedGiven, namesBack, contactsFit, freeGiven, freeOnce, stands, isFree, freeApart, givenKnown, samePair, pairsOnce, InRange}
-use Rattle.contact_range.specs.RangeLaws.{holds, shown, indexAt, Fitting}
-use Rattle.contact_range.specs.Conditions.{RightLength, Counts}
+use Rattle.contact_range.specs.RangeLaws.{holds, shown, Fitting}
+use Rattle.contact_range.specs.Conditions.{RightLength, Counts, indexAt}
 
 pub right-length-test : {g : List ℕ} → RightLength g → rightLength g ≡ true
 unfolding rightLength

@@ -22,8 +22,8 @@ use Rattle.words.specs.Words.{wordAt}
 use Rattle.layout.specs.Contact.{contactPairIndex}
 use Rattle.contact_range.specs.Recorded.{capacityOf, listedCount, freeCount, listedAt, freeAt, contactAt}
 use Rattle.contact_range.specs.Range.{countsFit, listedGiven, namesBack, contactsFit, freeGiven, freeOnce, stands, isFree, freeApart, givenKnown, sameColliders, samePair, pairsOnce, inRange}
-use Rattle.contact_range.specs.RangeLaws.{holds, shown, first-of, rest-of, counts-fit, indexAt, given-at, fits-at, stands-by-index, fitting}
-use Rattle.contact_range.specs.Conditions.{RightLength, RecordAt, Counts, ListedGiven, Standing, Unmarked, FreeTaken, listedFits, freeFits, pairNumber}
+use Rattle.contact_range.specs.RangeLaws.{holds, shown, first-of, rest-of, counts-fit, given-at, fits-at, stands-by-index, fitting}
+use Rattle.contact_range.specs.Conditions.{RightLength, RecordAt, Counts, ListedGiven, Standing, Unmarked, FreeTaken, listedFits, freeFits, pairNumber, indexAt}
 
 -- ---- tests of what was read or asked, as a branch of the code gives them
 pub refused : {r t : Bool} → r ≡ t → not r ≡ true → t ≡ false

@@ -1,14 +1,15 @@
 // The range test of a lent graph, linear in its words: refusals 1 and 2 of the specification, condition by condition.
 ghost use mathlib.Core.Path.{_≡_};
-ghost use mathlib.Core.Bool.{true, _||_};
+ghost use mathlib.Core.Bool.{true, _&&_, _||_};
+ghost use lib.Dec.{eqb};
 ghost use Prim.Native.Nat.{_+_, _≤_, _<_};
 ghost use lib.ListN.{length};
 ghost use Rattle.layout.specs.Bits.{mostBlocks};
 ghost use Rattle.layout.specs.Contact.{contactCollider2, contactSize};
 ghost use Rattle.rules.specs.Limits.{bodies, colliders};
 ghost use Rattle.contact_range.specs.Range.{rightLength, optionalFits, namesFit, marksFit, manifoldsFit, contactFits, countsFit, listedGiven, namesBack, contactsFit, freeGiven, stands, isFree, freeApart, givenKnown, pairsOnce, inRange};
-ghost use Rattle.contact_range.specs.Recorded.{givenOf};
-ghost use Rattle.contact_range.specs.Conditions.{RightLength, Counted, ListedGiven, Standing, FreeTaken, Unmarked, FreeMarked, listedFits, freeFits, pairNumber};
+ghost use Rattle.contact_range.specs.Recorded.{givenOf, listedCount, listedAt, contactAt};
+ghost use Rattle.contact_range.specs.Conditions.{RightLength, indexAt, pairBlocks, Counted, ListedGiven, Standing, FreeTaken, Unmarked, FreeMarked, listedFits, freeFits, pairNumber};
 ghost use Rattle.words.specs.Words.{wordAt};
 use crate::places::contact_at;
 use crate::places::free_at;
@@ -40,6 +41,9 @@ use layout::limits::MOST_CONTACTS;
 use layout::limits::STORED_POINTS;
 use layout::manifold::MANIFOLD_SIZE;
 use words::row::load_word;
+
+// Bit words for a mark of every pair of colliders.
+const PAIR_BLOCKS: usize = 1024;
 
 // Refusal 1: the capacity is 1 to 256, and the length is the one for it.
 pub fn right_length(graph: &[u32]) -> bool
@@ -171,35 +175,28 @@ fn listed_given(graph: &[u32]) -> bool
     true
 }
 
-// A list entry and its contact name each other.
-fn names_back(graph: &[u32]) -> bool
-    requires { ⌜ ListedGiven (now graph) ⌝ }
-    ensures { λ r. ⌜ r ≡ namesBack (now (graph .entry)) ⌝ }
+// The contact at a place of the list names that place, and its record is in range.
+fn contact_listed(graph: &[u32], p: usize) -> bool
+    requires { ⌜ ListedGiven (now graph) × (p < listedCount (now graph)) ⌝ }
+    ensures { λ r. ⌜ r ≡ (eqb (indexAt (now (graph .entry)) (listedAt (now (graph .entry)) p)) p && contactFits (now (graph .entry)) (contactAt (now (graph .entry)) (listedAt (now (graph .entry)) p))) ⌝ }
 {
-    let listed = number_at(graph, GRAPH_LISTED);
-    let mut p = 0;
-    while p < listed {
-        let id = id_at(graph, GRAPH_LIST + p);
-        let at = contact_at(graph, id);
-        if number_at(graph, at + CONTACT_PAIR_INDEX) != p {
-            return false;
-        }
-        p += 1;
+    let id = id_at(graph, GRAPH_LIST + p);
+    let at = contact_at(graph, id);
+    if number_at(graph, at + CONTACT_PAIR_INDEX) != p {
+        return false;
     }
-    true
+    contact_fits(graph, at)
 }
 
-// The record of each listed contact.
-fn contacts_fit(graph: &[u32]) -> bool
+// A list entry and its contact name each other, and the record of each listed contact is in range.
+fn contacts_listed(graph: &[u32]) -> bool
     requires { ⌜ ListedGiven (now graph) ⌝ }
-    ensures { λ r. ⌜ r ≡ contactsFit (now (graph .entry)) ⌝ }
+    ensures { λ r. ⌜ r ≡ (namesBack (now (graph .entry)) && contactsFit (now (graph .entry))) ⌝ }
 {
     let listed = number_at(graph, GRAPH_LISTED);
     let mut p = 0;
     while p < listed {
-        let id = id_at(graph, GRAPH_LIST + p);
-        let at = contact_at(graph, id);
-        if !contact_fits(graph, at) {
+        if !contact_listed(graph, p) {
             return false;
         }
         p += 1;
@@ -218,10 +215,7 @@ fn listed_fit(graph: &[u32]) -> bool
     if !listed_given(graph) {
         return false;
     }
-    if !names_back(graph) {
-        return false;
-    }
-    contacts_fit(graph)
+    contacts_listed(graph)
 }
 
 // A free id was given.
@@ -349,7 +343,7 @@ fn pair_number(graph: &[u32], at: usize) -> usize
 
 // The pairs differ: each is marked by its number, and none is marked already.
 fn pairs_differ(graph: &[u32], marks: &mut [u64]) -> bool
-    requires { ⌜ ListedGiven (now graph) × (contactsFit (now graph) ≡ true) × (length (now marks) ≡ 1024) × Unmarked (now marks) ⌝ }
+    requires { ⌜ ListedGiven (now graph) × (contactsFit (now graph) ≡ true) × (length (now marks) ≡ pairBlocks) × Unmarked (now marks) ⌝ }
     ensures { λ r. ⌜ r ≡ pairsOnce (now (graph .entry)) ⌝ }
 {
     let listed = number_at(graph, GRAPH_LISTED);
@@ -372,7 +366,7 @@ fn pairs_once(graph: &[u32]) -> bool
     requires { ⌜ ListedGiven (now graph) × (contactsFit (now graph) ≡ true) ⌝ }
     ensures { λ r. ⌜ r ≡ pairsOnce (now (graph .entry)) ⌝ }
 {
-    let mut marks = [0u64; 1024];
+    let mut marks = [0u64; PAIR_BLOCKS];
     pairs_differ(graph, &mut marks)
 }
 

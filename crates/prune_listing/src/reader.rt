@@ -4,6 +4,8 @@ use crate::lines::PointWords;
 use crate::lines::VectorRead;
 use crate::lines::read_normal;
 use crate::lines::read_point;
+use layout::limits::PROPOSED_POINTS;
+use layout::prune::PRUNE_POINT_SIZE;
 use layout::prune::PRUNE_POINTS_LENGTH;
 ghost use mathlib.Core.Path.{_≡_};
 ghost use mathlib.Core.Option.{IsSome};
@@ -67,14 +69,14 @@ fn store_points(text: &[u8], points: &mut [u32; PRUNE_POINTS_LENGTH])
 {
     let mut k = 0;
     let mut at = 29;
-    while k < 32 {
+    while k < PROPOSED_POINTS {
         if at >= text.len() {
             return;
         }
         let PointRead::Point(p) = read_point(text, at) else {
             return;
         };
-        store_point(points, 4 * k, p);
+        store_point(points, PRUNE_POINT_SIZE * k, p);
         at += 38;
         k += 1;
     }

@@ -355,6 +355,18 @@ module _ (test : ℕ → Bool) where
         | inr p ↦ (m, omega arith, p)
       ]
 
+-- two tests at once
+pub every-both : (f g : ℕ → Bool) (n : ℕ) → every (λ k. f k && g k) n ≡ every f n && every g n
+unfolding every
+every-both f g zero = refl
+every-both f g (suc m) = ap (λ (b : Bool). b && (f m && g m)) (every-both f g m) ∙ exchanged (every f m) (every g m) (f m) (g m)
+  where
+    exchanged : (a b c d : Bool) → (a && b) && (c && d) ≡ (a && c) && (b && d)
+    exchanged true true c d = refl
+    exchanged true false true d = refl
+    exchanged true false false d = refl
+    exchanged false b c d = refl
+
 -- tests that agree below n
 pub every-same : (f g : ℕ → Bool) (n : ℕ) → ((k : ℕ) → k < n → f k ≡ g k) → every f n ≡ every g n
 unfolding every

@@ -19,8 +19,8 @@ returns-2 c =
     let n = c .before .before in
     rw (passed (n .before .counts-fit .ensures) (n .if1 .left), refused (c .before .listed-given .ensures) (c .if2 .taken))
 
-names-back-requires : tie.Need-names-back-requires
-names-back-requires c κs =
+contacts-listed-requires : tie.Need-contacts-listed-requires
+contacts-listed-requires c κs =
     let n = c .before .before in
     record {
       counted = record { right = n .before .before .before .pre; counts = counts-fit (passed (n .before .counts-fit .ensures) (n .if1 .left)) };
@@ -30,27 +30,10 @@ names-back-requires c κs =
 returns-3 : tie.Need-returns-3
 unfolding listedFits
 returns-3 c =
-    let l = c .before .before in
+    let l = c .before in
     let n = l .before .before in
-    rw (passed (n .before .counts-fit .ensures) (n .if1 .left), passed (l .before .listed-given .ensures) (l .if2 .left), refused (c .before .names-back .ensures) (c .if3 .taken))
-
-contacts-fit-requires : tie.Need-contacts-fit-requires
-contacts-fit-requires c κs =
-    let l = c .before .before in
-    let n = l .before .before in
-    record {
-      counted = record { right = n .before .before .before .pre; counts = counts-fit (passed (n .before .counts-fit .ensures) (n .if1 .left)) };
-      given = passed (l .before .listed-given .ensures) (l .if2 .left);
-    }
-
-returns-4 : tie.Need-returns-4
-unfolding listedFits
-returns-4 c =
-    let b = c .before in
-    let l = b .before .before in
-    let n = l .before .before in
-    rw (passed (n .before .counts-fit .ensures) (n .if1 .left), passed (l .before .listed-given .ensures) (l .if2 .left), passed (b .before .names-back .ensures) (b .if3 .left)) (c .contacts-fit .ensures)
+    rw (passed (n .before .counts-fit .ensures) (n .if1 .left), passed (l .before .listed-given .ensures) (l .if2 .left)) (c .contacts-listed .ensures)
 
 pub listed-fit-spec : {M : Type 1} → statement M
 listed-fit-spec =
-    tie.close (tie.spec (search needs) returns listed-given-requires returns-2 names-back-requires returns-3 contacts-fit-requires returns-4)
+    tie.close (tie.spec (search needs) returns listed-given-requires returns-2 contacts-listed-requires returns-3)
