@@ -4,9 +4,9 @@
  *     cc -std=c99 -I bindings/c main.c target/staticlib/libcontact_api.a
  * The library needs memcpy and memset, and nothing else. docs/BUFFERS.md has every row and its words.
  *
- * A row is a pointer and its number of words. A float is a word, its IEEE bits; a mark is 0 or 1; an optional value is a mark and
- * its words. A row that is written may not overlap another row of the call, and no pointer may be null. Rows may have any length and
- * hold any words: what does not fit is refused. A call allocates nothing and keeps no pointer.
+ * A row is a pointer and its number of words, or of bytes. A float is a word, its IEEE bits; a mark is 0 or 1; an optional value is
+ * a mark and its words. A row that is written may not overlap another row of the call, and no pointer may be null. Rows may have any
+ * length and hold any words: what does not fit is refused. A call allocates nothing and keeps no pointer.
  */
 #ifndef SARDINEROD_H
 #define SARDINEROD_H
@@ -191,8 +191,11 @@ enum sardinerod_pair_flag {
 #define SARDINEROD_PRUNE_NORMAL_LENGTH              3
 #define SARDINEROD_PRUNE_POINTS_LENGTH              128
 #define SARDINEROD_PRUNE_ANSWER_LENGTH              5
+#define SARDINEROD_PLAYER_LENGTH                    5
+#define SARDINEROD_PLAY_ANSWER_LENGTH               2
+#define SARDINEROD_PRINTED_SIZE                     136
 #define SARDINEROD_LENGTHS_LENGTH                   10
-#define SARDINEROD_LAYOUT_LENGTH                    95
+#define SARDINEROD_LAYOUT_LENGTH                    98
 
 /*
  * 0: the graph is empty, of that capacity; every other word of it is 0.
@@ -235,6 +238,23 @@ uint32_t sardinerod_remove(uint32_t *graph, size_t graph_len, uint32_t id);
  */
 uint32_t sardinerod_prune(const uint32_t *normal, size_t normal_len, const uint32_t *points, size_t points_len, uint32_t count,
                           uint32_t *answer, size_t answer_len);
+
+/*
+ * Plays the line of the trace at the player's place. A player is five words: the place of the next line, where the lines since the
+ * last G begin, then three marks, set where not 0: the line above is an M or P; a T stands since the last G; all numbers since the
+ * last G are in range, those of A lines apart. A new player is 0, 0, 0, 0, 1, its graph laid out. From settings to shares the rows
+ * are for work: what they hold is not read, and a G fills them. out has 136 bytes for each contact of the capacity.
+ * 0: answer is 1 if the trace had ended before, else 0, and how many bytes the line prints, from the start of out. Player, graph and
+ *    a step's rows are those after the line. An unreadable line prints 10, and then the player is at the trace's end. At its end
+ *    nothing changes but answer, which is 1, 0.
+ * Refused: no lent word or byte changes; 1.
+ */
+uint32_t sardinerod_play_line(const uint8_t *trace, size_t trace_len, uint64_t *player, size_t player_len, uint32_t *graph,
+                              size_t graph_len, uint32_t *settings, size_t settings_len, uint32_t *colliders, size_t colliders_len,
+                              uint32_t *bodies, size_t bodies_len, uint32_t *proposals, size_t proposals_len, uint32_t *shares,
+                              size_t shares_len, uint64_t *bits, size_t bits_len, uint32_t *events, size_t events_len,
+                              uint32_t *changes, size_t changes_len, uint32_t *distances, size_t distances_len, uint8_t *out,
+                              size_t out_len, uint64_t *answer, size_t answer_len);
 
 /*
  * 0: answer is the length of each row of a step for that capacity, in the order of its arguments, from settings to distances.

@@ -166,6 +166,43 @@ impl ContactGraph {
         Ok(self.report)
     }
 
+    /// Plays the line at the player's place, with the rows of `world` and `shares` to work in. Refusal 1 (rows for another
+    /// capacity).
+    pub(crate) fn play_line(
+        &mut self,
+        trace: &[u8],
+        player: &mut [u64; PLAYER_LENGTH],
+        world: &mut World,
+        shares: &mut Shares,
+        out: &mut [u8],
+    ) -> Result<[u64; PLAY_ANSWER_LENGTH], Refusal> {
+        let [settings, colliders, bodies, proposals] = world.rows_mut();
+        let mut answer = [0; PLAY_ANSWER_LENGTH];
+        let number = raw::play_line(
+            trace,
+            player,
+            &mut self.words,
+            settings,
+            colliders,
+            bodies,
+            proposals,
+            shares.words_mut(),
+            &mut self.bits,
+            &mut self.events,
+            &mut self.changes,
+            &mut self.distances,
+            out,
+            &mut answer,
+        );
+        Refusal::outcome(number)?;
+        Ok(answer)
+    }
+
+    /// What a step counted that a line of a trace made.
+    pub(crate) fn set_report(&mut self, report: StepReport) {
+        self.report = report;
+    }
+
     /// A contact's edge. Refusals 2 and 9, in this order.
     pub fn look_up(&self, contact: ContactId) -> Result<ContactEdge, Refusal> {
         let mut answer = [0; LOOK_UP_ANSWER_LENGTH];

@@ -199,8 +199,14 @@ layout! {
     PRUNE_POINTS_LENGTH = 128;
     /// Words of pruning's answer.
     PRUNE_ANSWER_LENGTH = 5;
+    /// Words of a player of traces.
+    PLAYER_LENGTH = 5;
+    /// Words of the answer of a line that is played.
+    PLAY_ANSWER_LENGTH = 2;
+    /// Bytes that a line may print for each contact of the capacity.
+    PRINTED_SIZE = 136;
     /// Words of the answer of `lengths`.
     LENGTHS_LENGTH = 10;
     /// Words of the answer of `layout`: the names of this table.
-    LAYOUT_LENGTH = 95;
+    LAYOUT_LENGTH = 98;
 }

@@ -50,6 +50,10 @@
 //! # Ok::<(), sardinerod::Refusal>(())
 //! ```
 //!
+//! # Traces
+//!
+//! A [`Trace`] is a recorded load as text; a [`Play`] plays it line by line. docs/TRACES.md lists its lines.
+//!
 //! # Refusals
 //!
 //! A call whose rows or numbers do not fit answers a [`Refusal`], and then nothing has changed. No call panics, whatever floats,
@@ -76,6 +80,7 @@ mod refusal;
 mod report;
 mod rows;
 mod shares;
+mod trace;
 mod views;
 mod words;
 mod world;
@@ -86,6 +91,7 @@ pub use prune::{Kept, PrunePoint, prune};
 pub use refusal::Refusal;
 pub use report::{Change, Event, StepReport};
 pub use shares::Shares;
+pub use trace::{Play, Trace};
 pub use views::{ContactRecyclingCache, Manifold, Pair, Point, PointMut};
 pub use world::{
     Body, Coefficient, CoefficientCombine, Collider, ProposedManifold, ProposedPoint, Settings,

@@ -58,6 +58,36 @@ unsafe extern "C" {
         answer: *mut u32,
         answer_len: usize,
     ) -> u32;
+    fn sardinerod_play_line(
+        trace: *const u8,
+        trace_len: usize,
+        player: *mut u64,
+        player_len: usize,
+        graph: *mut u32,
+        graph_len: usize,
+        settings: *mut u32,
+        settings_len: usize,
+        colliders: *mut u32,
+        colliders_len: usize,
+        bodies: *mut u32,
+        bodies_len: usize,
+        proposals: *mut u32,
+        proposals_len: usize,
+        shares: *mut u32,
+        shares_len: usize,
+        bits: *mut u64,
+        bits_len: usize,
+        events: *mut u32,
+        events_len: usize,
+        changes: *mut u32,
+        changes_len: usize,
+        distances: *mut u32,
+        distances_len: usize,
+        out: *mut u8,
+        out_len: usize,
+        answer: *mut u64,
+        answer_len: usize,
+    ) -> u32;
     fn sardinerod_lengths(capacity: u32, answer: *mut u32, answer_len: usize) -> u32;
     fn sardinerod_layout(answer: *mut u32, answer_len: usize) -> u32;
 }
@@ -158,6 +188,60 @@ pub fn prune(normal: &[u32], points: &[u32], count: u32, answer: &mut [u32]) -> 
             points.as_ptr(),
             points.len(),
             count,
+            answer.as_mut_ptr(),
+            answer.len(),
+        )
+    }
+}
+
+/// Plays the line of `trace` at the player's place; `answer` is 1 if the trace had ended before, else 0, and how many bytes are
+/// printed, from the start of `out`. From `settings` to `shares` the rows are for work. Refusal 1.
+#[allow(clippy::too_many_arguments)]
+pub fn play_line(
+    trace: &[u8],
+    player: &mut [u64],
+    graph: &mut [u32],
+    settings: &mut [u32],
+    colliders: &mut [u32],
+    bodies: &mut [u32],
+    proposals: &mut [u32],
+    shares: &mut [u32],
+    bits: &mut [u64],
+    events: &mut [u32],
+    changes: &mut [u32],
+    distances: &mut [u32],
+    out: &mut [u8],
+    answer: &mut [u64],
+) -> u32 {
+    // SAFETY: see the top of this file.
+    unsafe {
+        sardinerod_play_line(
+            trace.as_ptr(),
+            trace.len(),
+            player.as_mut_ptr(),
+            player.len(),
+            graph.as_mut_ptr(),
+            graph.len(),
+            settings.as_mut_ptr(),
+            settings.len(),
+            colliders.as_mut_ptr(),
+            colliders.len(),
+            bodies.as_mut_ptr(),
+            bodies.len(),
+            proposals.as_mut_ptr(),
+            proposals.len(),
+            shares.as_mut_ptr(),
+            shares.len(),
+            bits.as_mut_ptr(),
+            bits.len(),
+            events.as_mut_ptr(),
+            events.len(),
+            changes.as_mut_ptr(),
+            changes.len(),
+            distances.as_mut_ptr(),
+            distances.len(),
+            out.as_mut_ptr(),
+            out.len(),
             answer.as_mut_ptr(),
             answer.len(),
         )

@@ -405,6 +405,16 @@ impl World {
     pub fn proposals_words_mut(&mut self) -> &mut [u32] {
         &mut self.proposals
     }
+
+    /// Settings, colliders, bodies and proposals, to write.
+    pub(crate) fn rows_mut(&mut self) -> [&mut [u32]; 4] {
+        [
+            &mut self.settings,
+            &mut self.colliders,
+            &mut self.bodies,
+            &mut self.proposals,
+        ]
+    }
 }
 
 /// Record `n` of a row of records.

@@ -59,7 +59,7 @@ fn the_header_has_the_table() {
 #[test]
 fn functions_agree() {
     let library = library_functions();
-    assert_eq!(library.len(), 8);
+    assert_eq!(library.len(), 9);
     assert_eq!(sorted(header_functions()), sorted(library.clone()));
     assert_eq!(sorted(raw_functions()), sorted(library.clone()));
     let mut named: Vec<String> = library.into_iter().map(|(name, _)| name).collect();

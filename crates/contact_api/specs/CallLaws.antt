@@ -25,7 +25,7 @@ use Rattle.contact_types.specs.declared.prune.PruneAnswer.{PruneAnswer}
 use Rattle.contact_types.specs.declared.prune.PruneAnswer.the-variants as pruned
 use Rattle.contact_types.specs.declared.pruning.KeptPoints.{KeptPoints}
 use Rattle.contact_types.specs.declared.refusal.Refusal.{Refusal}
-use Rattle.contact_graph.specs.Calls.{layOutRefusal, addRefusal, newIdOf, idRefusal}
+use Rattle.contact_graph.specs.Calls.{requestOf, layOutRefusal, addRefusal, newIdOf, idRefusal}
 use Rattle.collider.specs.Views.{plainNumberIf}
 use Rattle.contact_graph.specs.LookUp.{edgeValue, edgeOf}
 use Rattle.contact_graph.specs.Promises as graph
@@ -43,7 +43,7 @@ use Rattle.step.specs.Step.{Given, Rows, long, stepRefusal, Stepped, plainAnswe
 use Rattle.step.specs.declared.answer.StepAnswer.{StepAnswer}
 use Rattle.step.specs.declared.answer.StepAnswer.the-variants as stepped
 use Rattle.step.specs.declared.answer.StepReport.{StepReport}
-use Rattle.contact_api.specs.Calls.{unlessRefused, doneNumber, requestOf, idNumber, addNumber, edgeWords, edgeNumber, lookUpNumber, reportWords, reportNumber, stepNumber, refusalIn, numbersWords, keptWords, structWords, structNumber, structRow, pruneNumber, LayOutCalled, RemoveCalled, AddCalled, LookUpCalled, StepCalled, PruneCalled, lengthsNumber, LengthsCalled, layoutNumber, LayoutCalled}
+use Rattle.contact_api.specs.Calls.{unlessRefused, doneNumber, idNumber, addNumber, edgeWords, edgeNumber, lookUpNumber, reportWords, reportNumber, stepNumber, refusalIn, numbersWords, keptWords, structWords, structNumber, structRow, pruneNumber, LayOutCalled, RemoveCalled, AddCalled, LookUpCalled, StepCalled, PruneCalled, lengthsNumber, LengthsCalled, layoutNumber, LayoutCalled}
 use Rattle.contact_api.specs.Layout.{addAnswerLength, lookUpAnswerLength, stepAnswerLength, pruneNormalLength, pruneAnswerLength, lengthsLength, layoutLength, lengthsWords, layoutWords}
 use Rattle.layout.specs.Request.{requestLength}
 

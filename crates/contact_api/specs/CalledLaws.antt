@@ -13,7 +13,7 @@ use Rattle.contact_types.specs.PruneLaws.{prune-answered}
 use Rattle.contact_types.specs.RefusalLaws.{some-number}
 use Rattle.contact_types.specs.declared.prune.PruneAnswer.{PruneAnswer}
 use Rattle.contact_types.specs.declared.prune.PruneAnswer.the-variants as pruned
-use Rattle.contact_graph.specs.Calls.{layOutRefusal, addRefusal, newIdOf, idRefusal}
+use Rattle.contact_graph.specs.Calls.{requestOf, layOutRefusal, addRefusal, newIdOf, idRefusal}
 use Rattle.contact_graph.specs.DeterminedLaws.{lay-out-answered, add-answered, look-up-answered, remove-answered}
 use Rattle.contact_graph.specs.LookUp.{edgeOf}
 use Rattle.contact_graph.specs.Promises as graph
@@ -27,7 +27,7 @@ use Rattle.step.specs.Step as step
 use Rattle.step.specs.Step.{Given, Rows, long, stepRefusal, Stepped, plainAnswer}
 use Rattle.step.specs.declared.answer.StepAnswer.{StepAnswer}
 use Rattle.contact_api.specs.CallLaws.{number-by, done-number, struct-number, struct-row}
-use Rattle.contact_api.specs.Calls.{unlessRefused, doneNumber, requestOf, idNumber, idRow, addNumber, edgeNumber, edgeRow, lookUpNumber, reportWords, reportNumber, reportRow, stepNumber, refusalIn, keptWords, structNumber, structRow, pruneNumber, LayOutCalled, RemoveCalled, AddCalled, LookUpCalled, StepCalled, PruneCalled}
+use Rattle.contact_api.specs.Calls.{unlessRefused, doneNumber, idNumber, idRow, addNumber, edgeNumber, edgeRow, lookUpNumber, reportWords, reportNumber, reportRow, stepNumber, refusalIn, keptWords, structNumber, structRow, pruneNumber, LayOutCalled, RemoveCalled, AddCalled, LookUpCalled, StepCalled, PruneCalled}
 use Rattle.contact_api.specs.Layout.{addAnswerLength, lookUpAnswerLength, stepAnswerLength, pruneNormalLength, pruneAnswerLength}
 use Rattle.layout.specs.Request.{requestLength}
 

@@ -6,14 +6,14 @@ use mathlib.Core.Bool.{cond, not, _&&_}
 use mathlib.Core.List.{List, [], _∷_, _++_}
 use lib.Dec.{eqb, ltb, leb}
 use lib.ListN.{length}
-use Rattle.layout.specs.Request.{requestBody1, requestBody1Number, requestBody2, requestBody2Number, requestCollider1, requestCollider2, requestContactEvents, requestLength, requestModifyContacts, requestSpeculativeDistance}
+use Rattle.layout.specs.Request.{requestLength}
 use Rattle.rules.specs.Limits.{mostContacts, storedPoints}
 use Rattle.words.specs.Words.{wordAt, floatAt, vec3At, markWord}
 use Rattle.manifold_records.specs.Written.{padded}
 use Rattle.contact_records.specs.Written.{optionalWords}
 use Rattle.contact_types.specs.Prune as prune
 use Rattle.contact_types.specs.declared.pruning.KeptPoints.{KeptPoints}
-use Rattle.contact_graph.specs.Calls.{layOutRefusal, laidOut, addRefusal, newIdOf, addedWords, idRefusal, removedWords}
+use Rattle.contact_graph.specs.Calls.{requestOf, layOutRefusal, laidOut, addRefusal, newIdOf, addedWords, idRefusal, removedWords}
 use Rattle.contact_graph.specs.LookUp.{Edge, edgeOf}
 use Rattle.contact_graph.specs.Promises as graph
 use Rattle.contact_graph.specs.declared.call.Request.{Request}
@@ -36,20 +36,6 @@ pub record LayOutCalled (before : List ℕ) (capacity : ℕ) (after : List ℕ) 
   pub graph : after ≡ unlessRefused (layOutRefusal before capacity) (laidOut capacity) before
 
 -- ---- add
-abbrev pub requestOf : List ℕ → Request
-requestOf w =
-    record {
-      collider1 = wordAt w requestCollider1;
-      collider2 = wordAt w requestCollider2;
-      «has_body1» = wordAt w requestBody1;
-      body1 = wordAt w requestBody1Number;
-      «has_body2» = wordAt w requestBody2;
-      body2 = wordAt w requestBody2Number;
-      «contact_events» = wordAt w requestContactEvents;
-      «modify_contacts» = wordAt w requestModifyContacts;
-      «speculative_distance» = floatAt w requestSpeculativeDistance;
-    }
-
 -- what an answer says: the refusal's number or 0, and the row lent for the answer
 abbrev pub idNumber : graph.IdAnswer → ℕ
 idNumber (graph.refusedId n) = n

@@ -2,6 +2,7 @@
 -- Definitions only; docs/BUFFERS.md has the same table.
 use Prim.Native.Nat.{ℕ, _+_, _*_}
 use mathlib.Core.List.{List, [], _∷_, _++_}
+use Rattle.trace_printing.specs.Lines.{printedSize}
 use Rattle.layout.specs.Body.{bodiesLength, bodyAngularVelocity, bodyCenterOfMass, bodyFriction, bodyLinearVelocity, bodyMargin, bodyPosition, bodyRotation, bodySize, bodySpeculativeMaximum, bodyStatic, bodySweepRadius}
 use Rattle.layout.specs.Change.{changeSize, changesLength}
 use Rattle.layout.specs.Collider.{colliderBody, colliderFilters, colliderFriction, colliderLower, colliderMargin, colliderMemberships, colliderPosition, colliderRestitution, colliderSensor, colliderSize, colliderUpper, collidersLength}
@@ -37,8 +38,15 @@ pruneAnswerLength = 1 + storedPoints
 abbrev pub lengthsLength : ℕ
 lengthsLength = 10
 
+-- a player: the place of the next line, where the lines since the last go begin, three marks
+abbrev pub playerLength : ℕ
+playerLength = 5
+
+abbrev pub playAnswerLength : ℕ
+playAnswerLength = 2
+
 abbrev pub layoutLength : ℕ
-layoutLength = 95
+layoutLength = 98
 
 -- ---- settings, colliders, bodies, proposals, shares, graph, bit words, events, changes, distances
 unfoldable pub lengthsWords : ℕ → List ℕ
@@ -94,7 +102,7 @@ otherPlaces = sharesCounts ∷ sharesEntries ∷ eventSize ∷ changeSize ∷ []
 
 abbrev pub answerLengths : List ℕ
 answerLengths =
-    requestLength ∷ addAnswerLength ∷ stepAnswerLength ∷ lookUpAnswerLength ∷ pruneNormalLength ∷ prunePointsLength ∷ pruneAnswerLength ∷ lengthsLength ∷ layoutLength ∷ []
+    requestLength ∷ addAnswerLength ∷ stepAnswerLength ∷ lookUpAnswerLength ∷ pruneNormalLength ∷ prunePointsLength ∷ pruneAnswerLength ∷ playerLength ∷ playAnswerLength ∷ printedSize ∷ lengthsLength ∷ layoutLength ∷ []
 
 unfoldable pub layoutWords : List ℕ
 layoutWords =

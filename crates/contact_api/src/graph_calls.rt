@@ -5,13 +5,13 @@ ghost use Rattle.contact_records.specs.Written.{optionalWords};
 ghost use Rattle.collider.specs.Views.{plainNumberIf};
 ghost use Rattle.contact_graph.specs.LookUp.{edgeValue};
 ghost use Rattle.contact_graph.specs.Promises.{layOutAnswer, removeAnswer};
-ghost use Rattle.contact_api.specs.Calls.{doneNumber, requestOf, edgeWords, LayOutCalled, AddCalled, LookUpCalled, RemoveCalled};
+ghost use Rattle.contact_api.specs.Calls.{doneNumber, edgeWords, LayOutCalled, AddCalled, LookUpCalled, RemoveCalled};
 ghost use Rattle.layout.specs.Request.{requestLength};
 use collider::optional::OptionalBody;
 use contact_graph::add::AddAnswer;
 use contact_graph::add::add;
 use contact_graph::call::ContactEdge;
-use contact_graph::call::Request;
+use contact_graph::call::load_request;
 use contact_graph::lay_out::LayOutAnswer;
 use contact_graph::lay_out::lay_out;
 use contact_graph::look_up::LookUpAnswer;
@@ -19,18 +19,7 @@ use contact_graph::look_up::look_up;
 use contact_graph::remove::RemoveAnswer;
 use contact_graph::remove::remove;
 use contact_types::contact_id::ContactId;
-use layout::request::REQUEST_BODY1;
-use layout::request::REQUEST_BODY1_NUMBER;
-use layout::request::REQUEST_BODY2;
-use layout::request::REQUEST_BODY2_NUMBER;
-use layout::request::REQUEST_COLLIDER1;
-use layout::request::REQUEST_COLLIDER2;
-use layout::request::REQUEST_CONTACT_EVENTS;
 use layout::request::REQUEST_LENGTH;
-use layout::request::REQUEST_MODIFY_CONTACTS;
-use layout::request::REQUEST_SPECULATIVE_DISTANCE;
-use words::row::load_float;
-use words::row::load_word;
 use words::row::mark_word;
 use words::row::store_word;
 use words::row::store_words;
@@ -53,23 +42,6 @@ pub extern "C" fn sardinerod_lay_out(graph: &mut [u32], capacity: u32) -> u32
     ensures { λ r. ⌜ LayOutCalled (now (graph .entry)) capacity (now (graph .exit)) r ⌝ }
 {
     lay_out_number(lay_out(graph, capacity))
-}
-
-fn load_request(words: &[u32]) -> Request
-    requires { ⌜ length (now words) ≡ requestLength ⌝ }
-    ensures { λ r. ⌜ r ≡ requestOf (now (words .entry)) ⌝ }
-{
-    Request {
-        collider1: load_word(words, REQUEST_COLLIDER1),
-        collider2: load_word(words, REQUEST_COLLIDER2),
-        has_body1: load_word(words, REQUEST_BODY1),
-        body1: load_word(words, REQUEST_BODY1_NUMBER),
-        has_body2: load_word(words, REQUEST_BODY2),
-        body2: load_word(words, REQUEST_BODY2_NUMBER),
-        contact_events: load_word(words, REQUEST_CONTACT_EVENTS),
-        modify_contacts: load_word(words, REQUEST_MODIFY_CONTACTS),
-        speculative_distance: load_float(words, REQUEST_SPECULATIVE_DISTANCE),
-    }
 }
 
 #[no_mangle]

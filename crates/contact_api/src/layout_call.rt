@@ -9,6 +9,8 @@ use crate::graph_calls::LOOK_UP_ANSWER_LENGTH;
 use crate::prune_call::PRUNE_ANSWER_LENGTH;
 use crate::prune_call::PRUNE_NORMAL_LENGTH;
 use crate::step_call::STEP_ANSWER_LENGTH;
+use crate::trace_call::PLAY_ANSWER_LENGTH;
+use crate::trace_call::PLAYER_LENGTH;
 use contact_graph::lay_out::graph_length;
 use data_structures::bit_vec::blocks;
 use layout::body::BODIES_LENGTH;
@@ -101,11 +103,12 @@ use layout::settings::SETTINGS_RESTITUTION;
 use layout::settings::SETTINGS_STEP_TIME;
 use layout::shares::SHARES_COUNTS;
 use layout::shares::SHARES_ENTRIES;
+use trace_printing::lines::PRINTED_SIZE;
 use words::row::store_words;
 
 pub const LENGTHS_LENGTH: usize = 10;
 
-pub const LAYOUT_LENGTH: usize = 95;
+pub const LAYOUT_LENGTH: usize = 98;
 
 // As docs/BUFFERS.md names them.
 const LAYOUT: [u32; LAYOUT_LENGTH] = [
@@ -202,6 +205,9 @@ const LAYOUT: [u32; LAYOUT_LENGTH] = [
     PRUNE_NORMAL_LENGTH as u32,
     PRUNE_POINTS_LENGTH as u32,
     PRUNE_ANSWER_LENGTH as u32,
+    PLAYER_LENGTH as u32,
+    PLAY_ANSWER_LENGTH as u32,
+    PRINTED_SIZE as u32,
     LENGTHS_LENGTH as u32,
     LAYOUT_LENGTH as u32,
 ];

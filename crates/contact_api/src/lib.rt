@@ -3,3 +3,4 @@ pub mod graph_calls;
 pub mod layout_call;
 pub mod prune_call;
 pub mod step_call;
+pub mod trace_call;

@@ -11,10 +11,11 @@ use Rattle.rules.specs.Graph.{Addition, newPair}
 use Rattle.rules.specs.Limits.{colliders, bodies, mostContacts}
 use Rattle.rules.specs.Numbers.{any}
 use Rattle.rules.specs.Records.{Names, EdgeFlags}
-use Rattle.words.specs.Words.{wordAt}
+use Rattle.words.specs.Words.{wordAt, floatAt}
 use Rattle.manifold_records.specs.Written.{zeros}
 use Rattle.layout.specs.Contact.{contactPairIndex}
 use Rattle.layout.specs.Graph.{graphFree, graphGiven, graphLength, graphList, graphListed}
+use Rattle.layout.specs.Request.{requestBody1, requestBody1Number, requestBody2, requestBody2Number, requestCollider1, requestCollider2, requestContactEvents, requestModifyContacts, requestSpeculativeDistance}
 use Rattle.contact_records.specs.Recorded.{namesAt, edgeAt}
 use Rattle.contact_records.specs.Written.{contactWords}
 use Rattle.contact_range.specs.Recorded.{capacityOf, givenOf, listedCount, freeCount, listedAt, freeAt, contactAt}
@@ -43,6 +44,21 @@ optional mark n = cond (eqb mark 1) (some n) none
 -- the word behind a mark
 abbrev pub bodyWord : ℕ → ℕ → ℕ
 bodyWord mark n = cond (eqb mark 1) n 0
+
+-- the request in an addition's words
+abbrev pub requestOf : List ℕ → Request
+requestOf w =
+    record {
+      collider1 = wordAt w requestCollider1;
+      collider2 = wordAt w requestCollider2;
+      «has_body1» = wordAt w requestBody1;
+      body1 = wordAt w requestBody1Number;
+      «has_body2» = wordAt w requestBody2;
+      body2 = wordAt w requestBody2Number;
+      «contact_events» = wordAt w requestContactEvents;
+      «modify_contacts» = wordAt w requestModifyContacts;
+      «speculative_distance» = floatAt w requestSpeculativeDistance;
+    }
 
 -- refusal 2 of the addition itself
 unfoldable pub requestFits : Request → Bool

@@ -84,7 +84,7 @@ fn request_fits(a: Request) -> bool
 }
 
 // The same two colliders, in either order.
-fn same_colliders(a: u32, b: u32, c: u32, d: u32) -> bool
+pub fn same_colliders(a: u32, b: u32, c: u32, d: u32) -> bool
     ensures { λ r. ⌜ r ≡ sameColliders a b c d ⌝ }
 {
     PairKey::new(a, b).0 == PairKey::new(c, d).0

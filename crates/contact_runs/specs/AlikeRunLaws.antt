@@ -32,8 +32,8 @@ use Rattle.contact_runs.specs.Runs as runs
 use Rattle.contact_runs.specs.Claim.{Allowed, AlikeSteps, Alike, alike-same, alike-steps, AllAlike, alike-end, alike-then, SameSteps, SameTold, same-told, same-steps, AllSame, same-end, same-then}
 use Rattle.contact_runs.specs.Runs.{Entry, stepping, Told, stepped, Outcomes, end, _then_, Promised, Run}
 use Rattle.contact_runs.specs.OnlyLaws.{call-only}
-use Rattle.contact_runs.specs.Read.{eventsOf, changesOf}
-use Rattle.contact_runs.specs.ReadLaws.{refused-events, refused-changes, events-read, changes-read}
+use Rattle.step.specs.Read.{eventsOf, changesOf}
+use Rattle.step.specs.ReadLaws.{refused-events, refused-changes, events-read, changes-read}
 use Rattle.step.specs.DeterminedLaws.{step-determined}
 
 -- ---- two steps

@@ -4,9 +4,10 @@ use Prim.Native.Nat.{ℕ}
 use mathlib.Core.Path.{_≡_}
 use mathlib.Core.Bool.{Bool, true, false, _&&_}
 use mathlib.Core.List.{List, [], _∷_}
-use Rattle.contact_api.specs.Calls.{requestOf, idNumber, idRow, reportNumber, reportRow, AddCalled, StepCalled}
+use Rattle.contact_api.specs.Calls.{idNumber, idRow, reportNumber, reportRow, AddCalled, StepCalled}
 use Rattle.contact_api.specs.Layout.{addAnswerLength, stepAnswerLength}
 use Rattle.layout.specs.Request.{requestLength}
+use Rattle.contact_graph.specs.Calls.{requestOf}
 use Rattle.contact_graph.specs.Promises.{addAnswer}
 use Rattle.contact_graph.specs.declared.add.AddAnswer.{AddAnswer}
 use Rattle.step.specs.Step.{Given, Rows, long, plainAnswer}

@@ -7,8 +7,8 @@ use mathlib.Core.List.{List, [], _∷_}
 use lib.Dec.{eqb}
 use Rattle.words.specs.WordLaws.{read-fits}
 use Rattle.contact_api.specs.CalledLaws.{called-added, called-stepped}
-use Rattle.contact_api.specs.Calls.{unlessRefused, requestOf, addNumber, reportWords, stepNumber, AddCalled, StepCalled}
-use Rattle.contact_graph.specs.Calls.{addRefusal, newIdOf, addedWords}
+use Rattle.contact_api.specs.Calls.{unlessRefused, addNumber, reportWords, stepNumber, AddCalled, StepCalled}
+use Rattle.contact_graph.specs.Calls.{requestOf, addRefusal, newIdOf, addedWords}
 use Rattle.step.specs.Step.{Given, Rows, stepRefusal, passOf, rowsOf, answerOf}
 use Rattle.contact_runs.specs.Called.{CEntry, c-addition, c-stepping, c-impulses, CTold, c-added, c-stepped, c-silent, COutcome, COutcomes, c-end, _before_, Called, c-adds, c-steps, c-writes, CRun, ownRows, OwnRefusal, own-addition, own-step, Says, says-added, says-stepped, says-nothing, AsRun, as-end, as-own, as-call}
 use Rattle.contact_runs.specs.Runs as runs

@@ -52,7 +52,7 @@ use Rattle.step.specs.declared.answer.StepAnswer.{StepAnswer}
 use Rattle.update_pass.specs.Shared.{activeOf}
 use Rattle.contact_runs.specs.Called.{CEntry, COutcomes, CRun, AsRun}
 use Rattle.contact_runs.specs.Ordered.{InOrder}
-use Rattle.contact_runs.specs.Read.{eventsOf, changesOf}
+use Rattle.step.specs.Read.{eventsOf, changesOf}
 use Rattle.contact_runs.specs.Refusals.{plainAddRefusal, plainStepRefusal}
 use Rattle.contact_runs.specs.Runs.{Entry, addition, stepping, impulses, Told, added, stepped, silent, Outcome, Outcomes, end, _then_, Promised, Ordered, Run, AllFit}
 use Rattle.contact_runs.specs.Solver.{Write, writeWords, plainOfWrite}

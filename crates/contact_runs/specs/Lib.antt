@@ -2,14 +2,12 @@
 pub mod Refusals
 pub mod Solver
 pub mod Ordered
-pub mod Read
 pub mod Runs
 pub mod Called
 pub mod Claim
 pub mod RefusalLaws
 pub mod WriteLaws
 pub mod OrderLaws
-pub mod ReadLaws
 pub mod RunLaws
 pub mod OrderedRunLaws
 pub mod OnlyLaws

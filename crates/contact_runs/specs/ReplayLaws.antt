@@ -32,7 +32,7 @@ use Rattle.contact_runs.specs.Runs.{Entry, addition, stepping, impulses,
 use Rattle.contact_runs.specs.RefusalLaws.{step-refusal}
 use Rattle.contact_runs.specs.Refusals.{somePair, plainAddRefusal}
 use Rattle.contact_runs.specs.RunLaws.{call-plain}
-use Rattle.contact_runs.specs.ReadLaws.{refused-changes, changes-read}
+use Rattle.step.specs.ReadLaws.{refused-changes, changes-read}
 
 -- the number 5 of an addition
 add-spare : (a : Request) (g : Graph) → plainAddRefusal a g ≡ 0 → length (g .pairs) ≡ g .capacity → ⊥

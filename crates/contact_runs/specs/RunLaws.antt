@@ -27,7 +27,7 @@ use Rattle.step.specs.declared.answer.StepAnswer.{StepAnswer}
 use Rattle.contact_runs.specs.Runs as runs
 use Rattle.contact_runs.specs.Claim.{plainOf, ReportIs, AnswerIs, addition-refused, addition-made, step-refused, step-made, nothing, AsPlain, plain-end, plain-then}
 use Rattle.contact_runs.specs.Runs.{Entry, addition, stepping, impulses, Told, added, stepped, silent, Outcomes, end, _then_, Promised, Run}
-use Rattle.contact_runs.specs.ReadLaws.{events-read, changes-read}
+use Rattle.step.specs.ReadLaws.{events-read, changes-read}
 use Rattle.contact_runs.specs.RefusalLaws.{add-refusal, step-refusal}
 use Rattle.contact_runs.specs.Refusals.{plainAddRefusal, plainStepRefusal}
 use Rattle.contact_runs.specs.WriteLaws.{writes-checked, writes-mean}

@@ -13,7 +13,8 @@ use Rattle.layout.specs.Prune.{prunePointAnchor1, prunePointPenetration}
 use Rattle.rules.specs.Limits.{proposedPoints, storedPoints}
 use Rattle.contact_types.specs.Prune.{Answer, refused, keeps}
 use Rattle.prune_listing.specs.Listing.{Listing, listing}
-use Rattle.prune_listing.specs.Lines.{keptLine, refusedLine, Written}
+use Rattle.prune_listing.specs.Lines.{keptLine, refusedLine}
+use Rattle.text.specs.Text.{Written}
 
 -- a point of a listing: anchor 1, then penetration
 abbrev pub pointOf : List ℕ → PrunePoint

@@ -26,7 +26,8 @@ use Rattle.prune_listing.specs.declared.reader.Header.{Header}
 use Rattle.prune_listing.specs.declared.reader.Reading.{Reading}
 use Rattle.prune_listing.specs.declared.reader.Reading.the-variants.{Read, Unreadable}
 use Rattle.prune_listing.specs.Listing.{Listing, listing}
-use Rattle.prune_listing.specs.Lines.{decimal, keptLine, refusedLine, Written}
+use Rattle.prune_listing.specs.Lines.{decimal, keptLine, refusedLine}
+use Rattle.text.specs.Text.{Written}
 use Rattle.prune_listing.specs.LinesLaws.{decimal-short}
 use Rattle.prune_listing.specs.Answers.{readingOf, pointsOf, ListingRead}
 use Rattle.prune_listing.specs.ShapeLaws.{listing-shape}

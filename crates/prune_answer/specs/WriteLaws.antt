@@ -10,7 +10,8 @@ use lib.Seq.{take-suc, take-all, getD-take}
 use Rattle.rows.specs.Rows.{put, each}
 use Rattle.rows.specs.Laws.{length-put, put-append}
 use Rattle.rows.specs.EachLaws.{each-append}
-use Rattle.prune_listing.specs.Lines.{decimal, keptLine, Written}
+use Rattle.prune_listing.specs.Lines.{decimal, keptLine}
+use Rattle.text.specs.Text.{Written}
 use Rattle.prune_listing.specs.LinesLaws.{decimal-short}
 use Rattle.prune_answer.specs.Answer.{Below}
 

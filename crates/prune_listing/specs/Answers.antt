@@ -1,15 +1,14 @@
 -- What the code's answers say of a text. Definitions only.
 use mathlib.Core.Path.{_≡_}
-use Prim.Native.Nat.{ℕ, _+_, _-_, _*_, _<_}
+use Prim.Native.Nat.{ℕ, _+_, _-_, _*_}
 use mathlib.Core.Bool.{Bool, true, false}
 use mathlib.Core.List.{List, [], _∷_}
 use mathlib.Core.Option.{Option, none, some}
 use lib.ListN.{length, getD, take}
 use Rattle.rows.specs.Rows.{put, each}
+use Rattle.text.specs.Text.{Taken}
 use Rattle.layout.specs.Prune.{prunePointSize}
 use Rattle.rules.specs.Limits.{proposedPoints}
-use Rattle.prune_listing.specs.declared.words.Word.{Word}
-use Rattle.prune_listing.specs.declared.words.Word.the-variants.{Is, NoWord}
 use Rattle.prune_listing.specs.declared.lines.VectorWords.{VectorWords}
 use Rattle.prune_listing.specs.declared.lines.VectorRead.{VectorRead}
 use Rattle.prune_listing.specs.declared.lines.VectorRead.the-variants.{Vector, NoVector}
@@ -20,7 +19,7 @@ use Rattle.prune_listing.specs.declared.reader.Count.{Count}
 use Rattle.prune_listing.specs.declared.reader.Count.the-variants.{Points, NoPoints}
 use Rattle.prune_listing.specs.declared.reader.Reading.{Reading}
 use Rattle.prune_listing.specs.declared.reader.Reading.the-variants.{Read, Unreadable}
-use Rattle.prune_listing.specs.Listing.{Taken, hexDigit, Listing, listing}
+use Rattle.prune_listing.specs.Listing.{Listing, listing}
 
 -- ---- `read_listing`: the promise
 
@@ -43,24 +42,6 @@ pub record ListingRead (text row row′ : List ℕ) (r : Reading) : Type 0 where
   pub stored : row′ ≡ pointsOf row (listing text)
 
 -- ---- its parts
-
-abbrev pub valueOf : Word → Option ℕ
-valueOf (Is v) = some v
-valueOf NoWord = none
-
-abbrev pub Below : ℕ → Word → Type 0
-Below n (Is v) = v < n
-Below n NoWord = Unit {0}
-
--- r is the value of the digit b, if it is one
-pub record DigitRead (b : ℕ) (r : Word) : Type 0 where
-  pub value : hexDigit b ≡ valueOf r
-  pub small : Below 16 r
-
--- the value, if there is one, with what is left after it
-abbrev pub takenWord : Word → List ℕ → Option (Taken ℕ)
-takenWord (Is v) rest = some (record { value = v; rest = rest })
-takenWord NoWord rest = none
 
 abbrev pub takenEnd : Bool → List ℕ → Option (List ℕ)
 takenEnd true rest = some rest

@@ -1,14 +1,13 @@
 -- Texts and what they read to: C1 of the specification, what may differ, and what is unreadable. Assumes nothing.
-use mathlib.Core.Path.{_≡_, refl, sym, ap, _∙_}
-use Prim.Native.Nat.{ℕ, _+_, _-_, _≤_}
-use native.Mathlib.Omega.{arith}
+use mathlib.Core.Path.{_≡_, refl}
+use Prim.Native.Nat.{ℕ}
 use mathlib.Core.List.{List, [], _∷_, _++_, map}
 use mathlib.Core.Option.{none, some}
 use lib.ListN.{take, drop}
 use Rattle.rows.specs.Rows.{each}
-use Rattle.prune_listing.specs.Listing.{Listing, expect, hexDigit, digits, word, field, fields, lineEnd, line, normalLine, pointLine, atEnd, pointLines, allPoints, listing}
+use Rattle.text.specs.Text.{expect, hexDigit, digits, word}
+use Rattle.prune_listing.specs.Listing.{Listing, field, fields, lineEnd, line, normalLine, pointLine, atEnd, pointLines, allPoints, listing}
 use Rattle.prune_listing.specs.Lines.{decimal, keptLine}
-use Rattle.prune_listing.specs.WordLaws.{upper-digit, lower-digit}
 
 -- ---- C1
 
@@ -65,12 +64,6 @@ c1-reads = refl
 pub c1-open : listing c1-lines ≡ some c1-listing
 unfolding expect hexDigit digits word field fields lineEnd line normalLine pointLine atEnd pointLines allPoints listing
 c1-open = refl
-
--- a letter of either case is the same digit
-pub either-case : (b : ℕ) → 65 ≤ b → b ≤ 70 → hexDigit (b + 32) ≡ hexDigit b
-either-case b h l =
-    let e : b + 32 - 97 + 10 ≡ b - 65 + 10 = omega arith in
-    lower-digit (b + 32) (omega arith) (omega arith) ∙ ap some e ∙ sym (upper-digit b h l)
 
 -- ---- what is unreadable
 

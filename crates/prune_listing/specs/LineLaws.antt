@@ -7,7 +7,8 @@ use mathlib.Core.List.{List, [], _∷_, _++_}
 use mathlib.Core.Option.{Option, none, some}
 use lib.ListN.{length, drop, drop-of-length-le}
 use lib.Seq.{drop-cons}
-use Rattle.prune_listing.specs.Listing.{Taken, after, field, fields, line, pointLine, atEnd, pointLines}
+use Rattle.text.specs.Text.{Taken, after}
+use Rattle.prune_listing.specs.Listing.{field, fields, line, pointLine, atEnd, pointLines}
 
 -- ---- fields
 

@@ -1,11 +1,8 @@
 -- The lines that `prunelist` writes: K and a kept number, or R and a refusal's. The specification, 'Prune listing'. Definitions only.
-use mathlib.Core.Path.{_≡_}
 use Prim.Native.Nat.{ℕ, _+_, _/_, _%_}
 use mathlib.Core.Bool.{cond}
 use mathlib.Core.List.{List, [], _∷_, _++_}
 use lib.Dec.{ltb}
-use lib.ListN.{length}
-use Rattle.rows.specs.Rows.{put}
 
 -- the digits of a number below 1,000, with no zero in front
 unfoldable pub decimal : ℕ → List ℕ
@@ -23,8 +20,3 @@ keptLine n = numberLine 75 n
 
 abbrev pub refusedLine : ℕ → List ℕ
 refusedLine n = numberLine 82 n
-
--- the bytes stand in out from place at; it was out and is out′, and the place after them is r
-pub record Written (out : List ℕ) (at : ℕ) (bytes out′ : List ℕ) (r : ℕ) : Type 0 where
-  pub count : r ≡ at + length bytes
-  pub stored : out′ ≡ put out at bytes

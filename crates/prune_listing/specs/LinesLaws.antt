@@ -10,7 +10,8 @@ use lib.Dec.{ltb}
 use lib.ListN.{length, set, length-set, length-append}
 use Rattle.rows.specs.Rows.{put}
 use Rattle.rows.specs.Laws.{length-put, put-next-one}
-use Rattle.prune_listing.specs.Lines.{decimal, numberLine, Written}
+use Rattle.prune_listing.specs.Lines.{decimal, numberLine}
+use Rattle.text.specs.Text.{Written}
 
 -- three digits at most
 pub decimal-short : (n : ℕ) → length (decimal n) ≤ 3

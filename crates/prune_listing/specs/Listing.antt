@@ -1,43 +1,12 @@
 -- The text that `prunelist` reads: the specification, 'Prune listing'. A text is its bytes. Definitions only.
 -- One N line with three words, then P lines with four each. Whatever is not of this form reads to `none`.
-use Prim.Native.Nat.{ℕ, zero, suc, _+_, _-_, _*_}
-use mathlib.Core.Bool.{Bool, cond, _&&_}
+use Prim.Native.Nat.{ℕ, zero, suc}
+use mathlib.Core.Bool.{cond}
 use mathlib.Core.List.{List, [], _∷_}
 use mathlib.Core.Option.{Option, none, some}
 use lib.Dec.{leb, eqb}
 use lib.ListN.{length}
-
--- what was read off the front of a text, and what is left of it
-pub record Taken (A : Type 0) : Type 0 where
-  pub value : A
-  pub rest : List ℕ
-
--- one reading after another: none where either is
-abbrev pub after : {A B : Type 0} → Option A → (A → Option B) → Option B
-after none f = none
-after (some a) f = f a
-
--- the first byte is b, and what follows is read by f
-unfoldable pub expect : {A : Type 0} → ℕ → (List ℕ → Option A) → List ℕ → Option A
-expect b f [] = none
-expect b f (x ∷ xs) = cond (eqb x b) (f xs) none
-
-abbrev pub within : ℕ → ℕ → ℕ → Bool
-within low high b = leb low b && leb b high
-
--- the value of 0 to 9, A to F, a to f
-unfoldable pub hexDigit : ℕ → Option ℕ
-hexDigit b = cond (within 48 57 b) (some (b - 48)) (cond (within 65 70 b) (some (b - 65 + 10)) (cond (within 97 102 b) (some (b - 97 + 10)) none))
-
--- n more digits of a number whose digits up to here make v
-unfoldable pub digits : ℕ → ℕ → List ℕ → Option (Taken ℕ)
-digits zero v xs = some (record { value = v; rest = xs })
-digits (suc n) v [] = none
-digits (suc n) v (x ∷ xs) = after (hexDigit x) (λ d. digits n (v * 16 + d) xs)
-
--- a 32-bit word is eight digits
-unfoldable pub word : List ℕ → Option (Taken ℕ)
-word xs = digits 8 0 xs
+use Rattle.text.specs.Text.{Taken, after, expect, word}
 
 -- a field is a tab and a word
 unfoldable pub field : List ℕ → Option (Taken ℕ)

@@ -13,7 +13,8 @@ use Rattle.prune_listing.specs.declared.lines.VectorWords.{VectorWords}
 use Rattle.prune_listing.specs.declared.reader.Count.the-variants.{Points, NoPoints}
 use Rattle.prune_listing.specs.declared.reader.Reading.{Reading}
 use Rattle.prune_listing.specs.declared.reader.Reading.the-variants.{Read, Unreadable}
-use Rattle.prune_listing.specs.Listing.{after, normalLine, allPoints, Listing, longest, listing}
+use Rattle.text.specs.Text.{after}
+use Rattle.prune_listing.specs.Listing.{normalLine, allPoints, Listing, longest, listing}
 use Rattle.prune_listing.specs.Answers.{room, readingOf, pointsOf, ListingRead, vectorWords, countFrom, storedFrom}
 
 -- the listing of the normal and the points

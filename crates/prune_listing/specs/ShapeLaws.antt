@@ -6,7 +6,8 @@ use mathlib.Core.List.{List, [], _∷_}
 use mathlib.Core.Option.{Option, none, some}
 use lib.Dec.{leb, eqb}
 use lib.ListN.{length}
-use Rattle.prune_listing.specs.Listing.{Taken, after, expect, field, fields, lineEnd, line, normalLine, pointLine, atEnd, pointLines, allPoints, Listing, longest, listing}
+use Rattle.text.specs.Text.{Taken, after, expect}
+use Rattle.prune_listing.specs.Listing.{field, fields, lineEnd, line, normalLine, pointLine, atEnd, pointLines, allPoints, Listing, longest, listing}
 
 -- what was read, if anything, has n words
 abbrev Sized : ℕ → Option (Taken (List ℕ)) → Type 0

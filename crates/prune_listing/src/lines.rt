@@ -1,7 +1,7 @@
 // The lines of a listing, by their place: a line of three words has 28 bytes, one of four 37, and then the line feed.
-use crate::words::Word;
 use crate::words::line_ends;
 use crate::words::read_field;
+use text::reader::Word;
 ghost use mathlib.Core.Path.{_≡_};
 ghost use Prim.Native.Nat.{_+_, _≤_};
 ghost use lib.ListN.{drop};

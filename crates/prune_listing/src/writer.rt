@@ -2,7 +2,8 @@
 ghost use mathlib.Core.Path.{_≡_};
 ghost use Prim.Native.Nat.{_+_, _≤_, _<_};
 ghost use lib.ListN.{length};
-ghost use Rattle.prune_listing.specs.Lines.{decimal, numberLine, keptLine, refusedLine, Written};
+ghost use Rattle.prune_listing.specs.Lines.{decimal, numberLine, keptLine, refusedLine};
+ghost use Rattle.text.specs.Text.{Written};
 
 // A digit's byte.
 fn digit(n: u32) -> u8

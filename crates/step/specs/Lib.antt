@@ -6,3 +6,5 @@ pub mod ShareLaws
 pub mod TestLaws
 pub mod CodeLaws
 pub mod CallLaws
+pub mod Read
+pub mod ReadLaws

@@ -72,6 +72,9 @@ reference::branches! {
     "table 1: normal",
     "table 1: points to prune",
     "table 1: prune's answer",
+    "table 1: player",
+    "table 1: printed bytes",
+    "table 1: a line's answer",
     "table 2: request's collider 1",
     "table 2: request's collider 2",
     "table 2: request's mark of body 1",
@@ -142,12 +145,50 @@ reference::branches! {
     "table 9: a free id",
 }
 
+reference::branches! {
+    /// Lines played from any player.
+    Plays:
+    "play: at the end",
+    "play: past the end",
+    "play: unreadable",
+    "play: unreadable, inside a line",
+    "play: unreadable, a go without settings",
+    "play: waits for a go",
+    "play: waits for a go, inside a line",
+    "play: addition accepted",
+    "play: addition refused with 2",
+    "play: addition refused with 2, the graph out of range",
+    "play: addition refused with 3",
+    "play: addition refused with 4",
+    "play: addition refused with 5",
+    "play: go, 2 by the mark",
+    "play: go, 2 by the graph",
+    "play: go, 2 by the rows",
+    "play: go, 6",
+    "play: go, silent",
+    "play: go, prints",
+    "play: go, its lines begin inside a line",
+    "play: go, its lines begin past it",
+    "play: go, its lines begin past the end",
+    "play: go, another go among its lines",
+    "play: go, its lines end at one that fits no record",
+    "play: a mark over 1",
+    "play: a mark over the words of 32 bits",
+}
+
 macro_rules! reach {
     ($($branch:tt)+) => {
         reference::reach_in!($crate::branches::Lists; $($branch)+)
     };
 }
 pub(crate) use reach;
+
+macro_rules! played {
+    ($($branch:tt)+) => {
+        reference::reach_in!($crate::branches::Plays; $($branch)+)
+    };
+}
+pub(crate) use played;
 
 macro_rules! condition {
     ($($branch:tt)+) => {

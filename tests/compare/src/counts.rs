@@ -1,16 +1,21 @@
 //! How often each branch was reached.
 
-use crate::branches::{Lists, Table};
-use reference::branches::Branches;
+use crate::branches::{Lists, Plays, Table};
+use reference::branches::{Branches, Traces};
 
 /// The branches of reference and lists.
 pub fn branches() -> impl Iterator<Item = (&'static str, u32)> {
     Branches::counts().chain(Lists::counts())
 }
 
-/// The conditions of the table of refusals.
+/// The conditions of the table of refusals, and what lines reach from any player.
 pub fn conditions() -> impl Iterator<Item = (&'static str, u32)> {
-    Table::counts()
+    Table::counts().chain(Plays::counts())
+}
+
+/// What traces reach.
+pub fn traces() -> impl Iterator<Item = (&'static str, u32)> {
+    Traces::counts()
 }
 
 /// Ends the program if one of them was not reached.

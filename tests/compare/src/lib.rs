@@ -1,5 +1,5 @@
-//! The static library beside avian's own Rust: seeded random lists of calls on both, compared after every call, and damaged input
-//! against the specification's table of refusals.
+//! The static library beside avian's own Rust: seeded random lists of calls on both, compared after every call, damaged input
+//! against the specification's table of refusals, and traces.
 
 pub mod arguments;
 pub mod branches;
@@ -12,3 +12,4 @@ pub mod lists;
 pub mod oracle;
 pub mod refusals;
 pub mod sides;
+pub mod traces;

@@ -81,6 +81,14 @@ pub fn step(rows: &StepRows) -> u32 {
     0
 }
 
+/// By the lengths alone: what a line answers is printed. Of `rows` the answer is not lent.
+pub fn play_line(rows: &StepRows, player: usize, out: usize, answer: usize) -> u32 {
+    let misfits = graph_misfits(rows.graph)
+        || step_misfits(rows)
+        || play_misfits(rows.graph, player, out, answer);
+    u32::from(misfits)
+}
+
 pub fn look_up(graph: &[u32], id: u32, answer: usize) -> u32 {
     if answer != LOOK_UP_ANSWER_LENGTH {
         condition!("table 1: look up's answer");
@@ -182,6 +190,14 @@ fn step_misfits(rows: &StepRows) -> bool {
         rows.changes != changes => "table 1: changes",
         rows.distances != distances => "table 1: distances",
         rows.answer != STEP_ANSWER_LENGTH => "table 1: step's answer",
+    }
+}
+
+fn play_misfits(graph: &[u32], player: usize, out: usize, answer: usize) -> bool {
+    any_of! {
+        player != PLAYER_LENGTH => "table 1: player",
+        out != PRINTED_SIZE * capacity(graph) => "table 1: printed bytes",
+        answer != PLAY_ANSWER_LENGTH => "table 1: a line's answer",
     }
 }
 
@@ -309,7 +325,7 @@ fn pair_of(graph: &[u32], id: u32) -> (u32, u32) {
     (a.min(b), a.max(b))
 }
 
-fn graph_strays(graph: &[u32]) -> bool {
+pub fn graph_strays(graph: &[u32]) -> bool {
     counts_stray(graph)
         || ids_stray(graph[GRAPH_GIVEN], listed(graph), free(graph))
         || list_strays(graph)

@@ -1,13 +1,14 @@
 //! How often each call gave each answer.
 
 /// The calls, and the refusals that the specification gives to each, in its order.
-pub const CALLS: [(&str, &[u32]); 6] = [
+pub const CALLS: [(&str, &[u32]); 7] = [
     ("lay out", &[1]),
     ("add", &[1, 2, 3, 4, 5]),
     ("step", &[1, 2, 6, 7]),
     ("look up", &[1, 2, 9]),
     ("remove", &[1, 2, 9]),
     ("prune", &[1, 8, 6]),
+    ("play line", &[1]),
 ];
 
 #[derive(Clone, Copy, Debug, PartialEq, Eq)]
@@ -18,6 +19,7 @@ pub enum Call {
     LookUp,
     Remove,
     Prune,
+    PlayLine,
 }
 
 #[derive(Clone, Debug, Default)]

@@ -154,6 +154,9 @@ layout! {
     PRUNE_NORMAL_LENGTH = VECTOR;
     PRUNE_POINTS_LENGTH = PROPOSED_POINTS * PRUNE_POINT_SIZE;
     PRUNE_ANSWER_LENGTH = WORD + STORED_POINTS;
+    PLAYER_LENGTH = PLAYER_FITS + MARK;
+    PLAY_ANSWER_LENGTH = PLAY_ANSWER_PRINTED + WORD;
+    PRINTED_SIZE = printed_line(EVENT_FIELDS) + printed_line(CHANGE_FIELDS);
     LENGTHS_LENGTH = 10;
     LAYOUT_LENGTH = NAMES.len();
 }
@@ -253,6 +256,20 @@ pub const LOOK_UP_CONTACT_EVENTS: usize = LOOK_UP_TOUCHING + MARK;
 pub const PRUNE_POINT_PENETRATION: usize = VECTOR;
 pub const PRUNE_POINT_SIZE: usize = PRUNE_POINT_PENETRATION + FLOAT;
 
+/// A player of traces: places in the trace, then marks.
+pub const PLAYER_PLACE: usize = 0;
+pub const PLAYER_STRETCH: usize = PLAYER_PLACE + WORD;
+pub const PLAYER_TAKES_POINTS: usize = PLAYER_STRETCH + WORD;
+pub const PLAYER_SETTINGS: usize = PLAYER_TAKES_POINTS + MARK;
+pub const PLAYER_FITS: usize = PLAYER_SETTINGS + MARK;
+
+pub const PLAY_ANSWER_ENDED: usize = 0;
+pub const PLAY_ANSWER_PRINTED: usize = PLAY_ANSWER_ENDED + MARK;
+
+/// The fields of an event and of a change as they are printed, behind the letter.
+const EVENT_FIELDS: usize = 6;
+const CHANGE_FIELDS: usize = 5;
+
 /// Contacts of a bit word.
 pub const BITS: usize = u64::BITS as usize;
 
@@ -300,6 +317,11 @@ pub const fn proposed_manifold(m: usize) -> usize {
 /// In a proposed manifold, a point.
 pub const fn proposed_point(p: usize) -> usize {
     PROPOSED_MANIFOLD_POINTS + PROPOSED_POINT_SIZE * p
+}
+
+/// The most bytes of a printed line: letter, LF, and for each field a tab, a sign and ten digits.
+const fn printed_line(fields: usize) -> usize {
+    2 + 12 * fields
 }
 
 /// Bit words of a worker.

@@ -9,6 +9,8 @@
 //! (`contact_graph`), one list of events in the pass's order for two writers, each event with its contact's id, and the given
 //! workers for threads (`system_param`).
 //!
+//! `trace` reads and plays traces over these.
+//!
 //! `layout` has the sizes and places of docs/BUFFERS.md by name, and `words` reads typed values from such words. `tables`, and the
 //! programs in src/bin, make stored outputs of crates/.
 //!
@@ -27,6 +29,7 @@ pub mod math;
 mod reached;
 pub mod system_param;
 pub mod tables;
+pub mod trace;
 pub mod words;
 
 pub use addition::*;

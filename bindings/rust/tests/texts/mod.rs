@@ -87,6 +87,8 @@ fn from_c(parameter: &str) -> Vec<String> {
         None => (kind.to_owned(), name),
     };
     let kind = match kind.as_str() {
+        "const uint8_t *" => "*const u8",
+        "uint8_t *" => "*mut u8",
         "const uint32_t *" => "*const u32",
         "uint32_t *" => "*mut u32",
         "uint64_t *" => "*mut u64",
@@ -130,6 +132,8 @@ fn from_rattle(parameter: &str) -> Vec<String> {
         .split_once(": ")
         .expect("a parameter has a name and a type");
     let pointer = match kind {
+        "&[u8]" => "*const u8",
+        "&mut [u8]" => "*mut u8",
         "&[u32]" => "*const u32",
         "&mut [u32]" => "*mut u32",
         "&mut [u64]" => "*mut u64",

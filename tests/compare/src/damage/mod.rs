@@ -2,6 +2,8 @@
 //! a byte; an accepted one has to do what the reference does with the same words.
 
 mod change;
+mod play;
+mod recorded;
 mod step;
 pub mod unread;
 
@@ -29,12 +31,13 @@ pub fn any_call(
     shares: &Shares,
     refusals: &mut Refusals,
 ) -> Compared {
-    match rng.below(16) {
+    match rng.below(20) {
         0 => lay_out(rng, refusals),
         1 => prune(rng, refusals),
         2..4 => look_up(rng, sides, refusals),
         4..6 => remove(rng, sides, refusals),
         6..9 => add(rng, sides, refusals),
+        9..13 => play::play_line(rng, sides, shares, refusals),
         _ => step::step(rng, sides, shares, refusals),
     }
 }

@@ -7,28 +7,31 @@ use crate::oracle::{self, StepRows};
 use crate::refusals::{Call, Refusals};
 use crate::sides::Sides;
 use reference::layout::*;
-use reference::{CollisionDiagnostics, words};
+use reference::{CollisionDiagnostics, CollisionEvent, ContactStatusChange, words};
 use sardinerod::{ContactGraph, Shares, World, raw};
+
+/// What a step writes: events and changes.
+pub type Written = (Vec<CollisionEvent>, Vec<ContactStatusChange>);
 
 /// A step's rows, of any lengths.
 #[derive(Clone, Debug, PartialEq, Eq)]
-struct Step {
-    settings: Vec<u32>,
-    colliders: Vec<u32>,
-    bodies: Vec<u32>,
-    proposals: Vec<u32>,
-    shares: Vec<u32>,
-    graph: Vec<u32>,
-    bits: Vec<u64>,
-    events: Vec<u32>,
-    changes: Vec<u32>,
-    distances: Vec<u32>,
-    answer: Vec<u32>,
+pub struct Step {
+    pub settings: Vec<u32>,
+    pub colliders: Vec<u32>,
+    pub bodies: Vec<u32>,
+    pub proposals: Vec<u32>,
+    pub shares: Vec<u32>,
+    pub graph: Vec<u32>,
+    pub bits: Vec<u64>,
+    pub events: Vec<u32>,
+    pub changes: Vec<u32>,
+    pub distances: Vec<u32>,
+    pub answer: Vec<u32>,
 }
 
 impl Step {
     /// The rows as they stand. What a step writes, or does not read, holds anything before.
-    fn new(rng: &mut Rng, sides: &Sides, shares: &Shares) -> Self {
+    pub fn new(rng: &mut Rng, sides: &Sides, shares: &Shares) -> Self {
         let [.., bits, events, changes, distances] = oracle::lengths(sides.capacity);
         let mut any = |words: usize| -> Vec<u32> { (0..words).map(|_| rng.word()).collect() };
         let mut step = Self {
@@ -48,7 +51,7 @@ impl Step {
         step
     }
 
-    fn rows(&self) -> StepRows<'_> {
+    pub fn rows(&self) -> StepRows<'_> {
         StepRows {
             settings: &self.settings,
             colliders: &self.colliders,
@@ -64,7 +67,7 @@ impl Step {
         }
     }
 
-    fn call(&mut self) -> u32 {
+    pub fn call(&mut self) -> u32 {
         raw::step(
             &self.settings,
             &self.colliders,
@@ -123,13 +126,14 @@ pub fn step(rng: &mut Rng, sides: &Sides, shares: &Shares, refusals: &mut Refusa
     super::answered(refusals, Call::Step, expected, number)?;
     super::unchanged(number, &before, &step)?;
     match number {
-        0 => stepped(&before, &step),
+        0 => stepped(&before, &step).map(drop),
         _ => Ok(()),
     }
 }
 
-/// An accepted step: what the reference makes of the same words, and what is left of the rows that are written in part.
-fn stepped(before: &Step, after: &Step) -> Compared {
+/// An accepted step: what the reference makes of the same words, and what is left of the rows that are written in part. Gives the
+/// reference's events and changes.
+pub fn stepped(before: &Step, after: &Step) -> Result<Written, Difference> {
     let capacity = before.graph[GRAPH_CAPACITY] as usize;
     let rows = words::Rows {
         settings: &before.settings,
@@ -165,9 +169,14 @@ fn stepped(before: &Step, after: &Step) -> Compared {
     let changes = &narrow_phase.contact_status_changes;
     differences::written(&events, changes, &shapes.asked, &graph)?;
     differences::bits(&narrow_phase, capacity, &after.bits)?;
+    same_rows(before, after, &graph)?;
+    Ok((events, narrow_phase.contact_status_changes))
+}
 
-    let events = EVENT_SIZE * written as usize;
-    let changes = CHANGE_SIZE * changed as usize;
+/// The rows beside the graph, as the bindings have them after the same step, and what is left of them.
+fn same_rows(before: &Step, after: &Step, graph: &ContactGraph) -> Compared {
+    let events = EVENT_SIZE * graph.report().events as usize;
+    let changes = CHANGE_SIZE * graph.report().changes as usize;
     same(
         "events",
         &graph.events_words()[..events],

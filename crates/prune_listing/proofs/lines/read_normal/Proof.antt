@@ -1,7 +1,7 @@
 -- `prune_listing::lines::read_normal` meets its contract. Assumes nothing.
 use borrow.Author.Needs.{needs}
 use Rattle.prune_listing.specs.Listing.{fields, line, normalLine}
-use Rattle.prune_listing.specs.WordLaws.{expect-end, expect-other, expect-same}
+use Rattle.text.specs.TextLaws.{expect-end, expect-other, expect-same}
 use Rattle.prune_listing.proofs.lines.read_normal.Statement.{statement}
 use Rattle.prune_listing.proofs.lines.read_normal.Tie as tie
 

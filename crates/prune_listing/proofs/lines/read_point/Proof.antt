@@ -5,7 +5,7 @@ use native.Mathlib.Omega.{arith}
 use borrow.Author.Needs.{needs}
 use lib.ListN.{drop}
 use Rattle.prune_listing.specs.Listing.{fields, line, pointLine}
-use Rattle.prune_listing.specs.WordLaws.{expect-end, expect-other, expect-same}
+use Rattle.text.specs.TextLaws.{expect-end, expect-other, expect-same}
 use Rattle.prune_listing.specs.LineLaws.{fields-last}
 use Rattle.prune_listing.proofs.lines.read_point.Statement.{statement}
 use Rattle.prune_listing.proofs.lines.read_point.Tie as tie

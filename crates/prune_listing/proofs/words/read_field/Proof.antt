@@ -15,7 +15,7 @@ returns-2 c =
 returns-3 : tie.Need-returns-3
 returns-3 c =
     let a = c .before .before .before .before .before .args in
-    field-tab (a .text .now) (a .at) (c .read-word .result) (search needs) (search needs) (c .read-word .ensures)
+    field-tab (a .text .now) (a .at) (c .read-word .result) (search needs) (search needs) (c .read-word .ensures .read)
 
 pub read-field-spec : {M : Type 1} → statement M
 read-field-spec = tie.close (tie.spec returns (search needs) returns-2 (search needs) (search needs) returns-3)

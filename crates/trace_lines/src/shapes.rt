@@ -1,0 +1,50 @@
+// The records' items in one table, a letter for each: f float, n number, c collider, b body, m mark, r rule, and where a dash may stand for it B body, F float, R coefficient and rule.
+ghost use mathlib.Core.Path.{_≡_};
+ghost use Prim.Native.Nat.{_<_};
+ghost use lib.ListN.{getD};
+ghost use Rattle.trace_lines.specs.Codes.{codes};
+ghost use Rattle.trace_lines.specs.Answers.{ShapeReadAt};
+
+const CODES: [u8; 76] =
+    *b"ccBBmmffffffmfrfrcBfffffffffnnRRFmbmffffffffffffffffRFFfccmccfffffffffffffnn";
+
+// Where a record's items stand in the table.
+pub struct Shape {
+    pub start: usize,
+    pub count: usize,
+}
+
+pub enum ShapeRead {
+    Shaped(Shape),
+    NoShape,
+}
+
+pub fn code_at(i: usize) -> u8
+    requires { ⌜ i < 76 ⌝ }
+    ensures { λ r. ⌜ r ≡ getD codes i 0 ⌝ }
+{
+    CODES[i]
+}
+
+fn shaped(start: usize, count: usize) -> ShapeRead
+    ensures { λ r. ⌜ r ≡ ShapeRead.Shaped (record { start = start; count = count }) ⌝ }
+{
+    ShapeRead::Shaped(Shape { start, count })
+}
+
+// By the line's letter.
+pub fn shape_of(letter: u8) -> ShapeRead
+    ensures { λ r. ⌜ ShapeReadAt letter r ⌝ }
+{
+    match letter {
+        b'A' => shaped(0, 7),
+        b'T' => shaped(7, 10),
+        b'C' => shaped(17, 17),
+        b'B' => shaped(34, 22),
+        b'H' => shaped(56, 3),
+        b'M' => shaped(59, 5),
+        b'P' => shaped(64, 12),
+        b'G' => shaped(76, 0),
+        _ => ShapeRead::NoShape,
+    }
+}

@@ -1,0 +1,1 @@
+// Theorems about the traces of docs/TRACES.md: see specs/. No code.

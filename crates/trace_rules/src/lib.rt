@@ -1,0 +1,1 @@
+// The traces of docs/TRACES.md as plain definitions: see specs/. No code.

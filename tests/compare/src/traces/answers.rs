@@ -1,0 +1,56 @@
+//! How many traces print what.
+
+/// The numbers that a line may print alone.
+pub const NUMBERS: [u32; 6] = [2, 3, 4, 5, 6, 10];
+
+#[derive(Clone, Debug, Default)]
+pub struct Answers {
+    pub traces: u64,
+    by_number: [u64; NUMBERS.len()],
+    events: u64,
+    changes: u64,
+    silent: u64,
+}
+
+impl Answers {
+    /// What a trace's lines print.
+    pub fn note(&mut self, printed: &[Vec<u8>]) {
+        let any = |start: &[u8]| printed.iter().any(|output| output.starts_with(start));
+        let has = |part: &[u8]| printed.iter().any(|output| contains(output, part));
+        self.traces += 1;
+        for (count, number) in self.by_number.iter_mut().zip(NUMBERS) {
+            *count += u64::from(any(format!("{number}\n").as_bytes()));
+        }
+        self.events += u64::from(any(b"E\t"));
+        self.changes += u64::from(has(b"S\t"));
+        self.silent += u64::from(printed.iter().all(|output| output.is_empty()));
+    }
+
+    /// How many traces print each number at least once, events, changes, nothing.
+    pub fn lines(&self) -> impl Iterator<Item = (String, u64)> {
+        let names = NUMBERS.map(|number| format!("traces that print {number}"));
+        let others = [
+            ("traces that print events", self.events),
+            ("traces that print changes", self.changes),
+            ("traces that print nothing", self.silent),
+        ];
+        let others = others.map(|(name, count)| (name.to_string(), count));
+        names.into_iter().zip(self.by_number).chain(others)
+    }
+
+    pub fn print(&self) {
+        for (name, count) in self.lines() {
+            println!("{count:9} {name}");
+        }
+    }
+
+    /// The first that no trace printed.
+    pub fn missing(&self) -> Option<String> {
+        let mut missing = self.lines().filter(|(_, count)| *count == 0);
+        missing.next().map(|(name, _)| name)
+    }
+}
+
+fn contains(output: &[u8], part: &[u8]) -> bool {
+    output.windows(part.len()).any(|window| window == part)
+}
