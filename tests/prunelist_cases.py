@@ -6,7 +6,7 @@ import math, os, re, struct
 # ---- limits: the points that pruning leaves and takes at most, the bytes of a listing
 
 STORED_POINTS = 4
-PROPOSED_POINTS = 32
+PROPOSED_POINTS = 24
 MOST_BYTES = 65536
 
 # ---- floats: each operation on doubles, rounded once to 32 bits (exact, since 53 >= 2 * 24 + 2)
@@ -92,8 +92,7 @@ def scattered(n):
 
 OBLIQUE = [0.48, -0.6, 0.64]
 C1 = text(UP, SQUARE)
-OVER = PROPOSED_POINTS + 1
-MANY = text(OBLIQUE, scattered(OVER))
+MANY = text(OBLIQUE, scattered(33))
 
 CASES = {
     'c1': C1,
@@ -101,12 +100,13 @@ CASES = {
     'c3_two_equal': text(UP, SQUARE[:3] + [SQUARE[2]] + SQUARE[4:]),
     'c4_nan': text([NAN] * 3, [[NAN] * 4] * 5),
     'four_points': text(UP, SQUARE[:STORED_POINTS]),
-    '%d_points' % PROPOSED_POINTS: text(OBLIQUE, scattered(PROPOSED_POINTS)),
-    '%d_points' % OVER: MANY,
+    'most_points': text(OBLIQUE, scattered(PROPOSED_POINTS)),
+    'too_many_points': text(OBLIQUE, scattered(PROPOSED_POINTS + 1)),
+    '33_points': MANY,
     'normal_alone': line('N', UP),
     'lower_case': C1.replace('A', 'a').replace('B', 'b').replace('C', 'c').replace('F', 'f'),
     'last_feed_missing': C1[:-1],
-    'unreadable_after_%d' % OVER: MANY + 'P\t00000000\n',
+    'unreadable_after_33': MANY + 'P\t00000000\n',
     'carriage_return': C1.replace('\n', '\r\n'),
     'empty': '',
     'empty_line': C1 + '\n',

@@ -7,7 +7,7 @@ import os, subprocess, sys
 # ---- limits: a proposal's manifolds and points, the bytes of a trace
 
 MANIFOLDS = 6
-PROPOSED_POINTS = 32
+PROPOSED_POINTS = 24
 MOST_BYTES = 65536
 
 # ---- lines
@@ -104,7 +104,7 @@ CASES = {
     'graph_full': (ROOM, '5\n4\n3\n' + started(2, 1, 3) + start(2)),
     # Refused, the go leaves the graph as it was, and its records are gone: of the next, without colliders, nothing comes.
     'too_many_manifolds': (A(0, 1) + go(MP(0, 1) * (MANIFOLDS + 1)) + T() + G + MARK + go(MP(1, 0) * MANIFOLDS), '6\n3\n' + TOUCH),
-    'too_many_points': (A(0, 1) + go(M(0, 1), P() * (PROPOSED_POINTS + 1)) + go(M(0, 1), P() * PROPOSED_POINTS), '6\n' + TOUCH),
+    'too_many_points': (A(0, 1) + go(M(0, 1), P() * (PROPOSED_POINTS + 1)) + go(M(0, 1), P() * 33) + go(M(0, 1), P() * PROPOSED_POINTS), '6\n6\n' + TOUCH),
     'too_many_passed_over': (A(0, 1) + go(MP(0, 1), M(0, 2) * (MANIFOLDS + 1), P() * (PROPOSED_POINTS + 1)), TOUCH),
     'out_of_range_before_too_many': (A(0, 1) + go(M(0, 1) * (MANIFOLDS + 1), B(128)), '2\n'),
     # Of each kind of line; none is answered again at the next go.

@@ -25,7 +25,7 @@ enum sardinerod_refusal {
     SARDINEROD_SAME_COLLIDER = 3,      /* both sides of an added pair are one collider */
     SARDINEROD_PAIR_EXISTS = 4,        /* the added pair stands already, in either order */
     SARDINEROD_GRAPH_FULL = 5,         /* as many contacts stand as the capacity */
-    SARDINEROD_PROPOSAL_TOO_LARGE = 6, /* over 6 manifolds in a pair, or 32 points in a manifold */
+    SARDINEROD_PROPOSAL_TOO_LARGE = 6, /* over 6 manifolds in a pair, or 24 points in a manifold */
     SARDINEROD_INVALID_SHARES = 7,     /* workers not 1 to 8, an active pair not listed once, or anything else listed */
     SARDINEROD_TOO_FEW_POINTS = 8,     /* fewer than 5 points to prune */
     SARDINEROD_NO_CONTACT = 9          /* the id names no standing contact */
@@ -77,7 +77,7 @@ enum sardinerod_pair_flag {
 #define SARDINEROD_BODIES                           128
 #define SARDINEROD_MANIFOLDS                        6
 #define SARDINEROD_STORED_POINTS                    4
-#define SARDINEROD_PROPOSED_POINTS                  32
+#define SARDINEROD_PROPOSED_POINTS                  24
 #define SARDINEROD_MOST_WORKERS                     8
 
 /* A graph. The free ids stand behind the list, the records behind these. */
@@ -160,13 +160,13 @@ enum sardinerod_pair_flag {
 #define SARDINEROD_BODY_SWEEP_RADIUS                25
 
 /* A contact's proposal. */
-#define SARDINEROD_PROPOSAL_SIZE                    2330
+#define SARDINEROD_PROPOSAL_SIZE                    1754
 #define SARDINEROD_PROPOSAL_HOOK                    0
 #define SARDINEROD_PROPOSAL_COUNT                   1
 #define SARDINEROD_PROPOSAL_MANIFOLDS               2
 
 /* A proposed manifold, which begins with its number of points. */
-#define SARDINEROD_PROPOSED_MANIFOLD_SIZE           388
+#define SARDINEROD_PROPOSED_MANIFOLD_SIZE           292
 #define SARDINEROD_PROPOSED_MANIFOLD_NORMAL         1
 #define SARDINEROD_PROPOSED_MANIFOLD_POINTS         4
 
@@ -189,7 +189,7 @@ enum sardinerod_pair_flag {
 #define SARDINEROD_STEP_ANSWER_LENGTH               3
 #define SARDINEROD_LOOK_UP_ANSWER_LENGTH            10
 #define SARDINEROD_PRUNE_NORMAL_LENGTH              3
-#define SARDINEROD_PRUNE_POINTS_LENGTH              128
+#define SARDINEROD_PRUNE_POINTS_LENGTH              96
 #define SARDINEROD_PRUNE_ANSWER_LENGTH              5
 #define SARDINEROD_PLAYER_LENGTH                    5
 #define SARDINEROD_PLAY_ANSWER_LENGTH               2

@@ -24,7 +24,7 @@ layout! {
     /// Most points of a stored manifold.
     STORED_POINTS = 4;
     /// Most points of a proposed manifold.
-    PROPOSED_POINTS = 32;
+    PROPOSED_POINTS = 24;
     /// Most workers of a step.
     MOST_WORKERS = 8;
     /// Graph: the capacity.
@@ -158,7 +158,7 @@ layout! {
     /// Body: its sweep radius.
     BODY_SWEEP_RADIUS = 25;
     /// Words of a contact's proposal.
-    PROPOSAL_SIZE = 2330;
+    PROPOSAL_SIZE = 1754;
     /// Proposal: the hook's answer, a mark.
     PROPOSAL_HOOK = 0;
     /// Proposal: the number of manifolds.
@@ -166,7 +166,7 @@ layout! {
     /// Proposal: the first manifold.
     PROPOSAL_MANIFOLDS = 2;
     /// Words of a proposed manifold, which begins with its number of points.
-    PROPOSED_MANIFOLD_SIZE = 388;
+    PROPOSED_MANIFOLD_SIZE = 292;
     /// Proposed manifold: the normal.
     PROPOSED_MANIFOLD_NORMAL = 1;
     /// Proposed manifold: the first point.
@@ -196,7 +196,7 @@ layout! {
     /// Words of the normal that pruning takes.
     PRUNE_NORMAL_LENGTH = 3;
     /// Words of the points that pruning takes.
-    PRUNE_POINTS_LENGTH = 128;
+    PRUNE_POINTS_LENGTH = 96;
     /// Words of pruning's answer.
     PRUNE_ANSWER_LENGTH = 5;
     /// Words of a player of traces.

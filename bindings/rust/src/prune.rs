@@ -34,8 +34,8 @@ impl Deref for Kept {
 /// Words of a point to prune: anchor 1 and the penetration.
 const PRUNE_POINT_SIZE: usize = PRUNE_POINTS_LENGTH / PROPOSED_POINTS;
 
-/// Which of 5 to 32 points stay, by the points' anchors as seen along the normal, and their penetrations. Refusal 8 where there are
-/// fewer than 5 points, 6 where there are over 32.
+/// Which of 5 to 24 points stay, by the points' anchors as seen along the normal, and their penetrations. Refusal 8 where there are
+/// fewer than 5 points, 6 where there are over [`PROPOSED_POINTS`], 24.
 pub fn prune(normal: [f32; 3], points: &[PrunePoint]) -> Result<Kept, Refusal> {
     let normal: [u32; PRUNE_NORMAL_LENGTH] = normal.map(f32::to_bits);
     let words = point_words(points);

@@ -17,7 +17,7 @@ pub enum Refusal {
     PairExists = 4,
     /// 5: as many contacts stand as the capacity.
     GraphFull = 5,
-    /// 6: over 6 manifolds are proposed for a pair, or over 32 points for a manifold.
+    /// 6: over 6 manifolds are proposed for a pair, or over 24 points for a manifold.
     ProposalTooLarge = 6,
     /// 7: workers not 1 to 8, some active pair not listed once among them, or anything else listed.
     InvalidShares = 7,

@@ -262,7 +262,7 @@ impl ProposedPoint {
 pub struct ProposedManifold {
     /// The normal, in world space, from the first shape towards the second.
     pub normal: [f32; 3],
-    /// The points; over 32 are refused by the step.
+    /// The points; over [`PROPOSED_POINTS`], 24, are refused by the step.
     pub points: Vec<ProposedPoint>,
 }
 

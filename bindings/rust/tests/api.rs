@@ -581,7 +581,7 @@ fn pruning_keeps_the_specified_points() {
         penetration: f32::NAN,
     };
     assert_eq!(*prune([f32::NAN; 3], &[nan; 5]).unwrap(), [0, 1]);
-    assert_eq!(prune(normal, &[c1()[0]; 32]).unwrap().len(), 2);
+    assert_eq!(prune(normal, &[c1()[0]; PROPOSED_POINTS]).unwrap().len(), 2);
 }
 
 #[test]
@@ -590,7 +590,7 @@ fn pruning_refuses_counts() {
     for n in 0..5 {
         assert_eq!(prune(normal, &c1()[..n]), Err(Refusal::TooFewPoints));
     }
-    for n in [33, 40, 1000] {
+    for n in [PROPOSED_POINTS + 1, 33, 1000] {
         let points = vec![c1()[0]; n];
         assert_eq!(prune(normal, &points), Err(Refusal::ProposalTooLarge));
     }

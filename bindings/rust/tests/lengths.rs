@@ -32,9 +32,10 @@ fn lengths_are_the_documented_ones() {
     // The figures that the document gives for capacities 4 and 256.
     assert_eq!(
         documented(4),
-        [10, 5888, 3328, 9320, 13, 2104, 8, 32, 20, 4]
+        [10, 5888, 3328, 7016, 13, 2104, 8, 32, 20, 4]
     );
-    assert_eq!(documented(256)[5], 134_404);
+    let largest = documented(256);
+    assert_eq!((largest[3], largest[5]), (449_024, 134_404));
 }
 
 #[test]
@@ -157,6 +158,35 @@ fn a_step_takes_no_other_length() {
                 );
             }
         }
+    }
+}
+
+/// Words of a proposal, and of the points to prune, made for so many points of a manifold.
+fn sizes_for(points: usize) -> (usize, usize) {
+    let manifold = PROPOSED_MANIFOLD_POINTS + points * PROPOSED_POINT_SIZE;
+    (PROPOSAL_MANIFOLDS + MANIFOLDS * manifold, points * 4)
+}
+
+/// A row made for another number of proposed points, 32 among them, has the wrong length.
+#[test]
+fn rows_are_made_for_one_number_of_points() {
+    assert_eq!(
+        sizes_for(PROPOSED_POINTS),
+        (PROPOSAL_SIZE, PRUNE_POINTS_LENGTH)
+    );
+    for points in [0, 4, PROPOSED_POINTS - 1, PROPOSED_POINTS + 1, 32] {
+        let (proposal, to_prune) = sizes_for(points);
+        for capacity in CAPACITIES {
+            let mut rows = Rows::new(capacity);
+            rows.given[3].resize(proposal * capacity as usize, 0);
+            let before = rows.clone();
+            assert_eq!(rows.step(), 1);
+            assert!(rows == before, "capacity {capacity}, {points} points");
+        }
+        let mut answer = [7; PRUNE_ANSWER_LENGTH];
+        let normal = [0; PRUNE_NORMAL_LENGTH];
+        assert_eq!(raw::prune(&normal, &vec![0; to_prune], 5, &mut answer), 1);
+        assert_eq!(answer, [7; PRUNE_ANSWER_LENGTH]);
     }
 }
 

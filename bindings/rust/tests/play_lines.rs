@@ -165,6 +165,20 @@ fn a_line_takes_no_other_length() {
     }
 }
 
+/// Proposals made for 32 points of a manifold.
+#[test]
+fn a_line_takes_no_proposals_for_32_points() {
+    let manifold = PROPOSED_MANIFOLD_POINTS + 32 * PROPOSED_POINT_SIZE;
+    for capacity in CAPACITIES {
+        let mut lent = Lent::new(capacity, [0, 0, 0, 0, 1]);
+        let proposal = PROPOSAL_MANIFOLDS + MANIFOLDS * manifold;
+        lent.given[3].resize(proposal * capacity as usize, 7);
+        let before = lent.clone();
+        assert_eq!(lent.play(&trace()), 1);
+        assert_eq!(lent, before);
+    }
+}
+
 #[test]
 fn at_the_end_nothing_changes_but_the_answer() {
     let end = trace().len() as u64;

@@ -159,7 +159,7 @@ fn a_proposal() {
     words[at + 3..at + 6].copy_from_slice(&bits(floats::<3>(1)));
     words[at + 6..at + 18].copy_from_slice(&proposed_words(10));
     words[at + 18..at + 30].copy_from_slice(&proposed_words(30));
-    let second = at + 2 + 388;
+    let second = at + PROPOSAL_MANIFOLDS + PROPOSED_MANIFOLD_SIZE;
     words[second] = 1;
     words[second + 1..second + 4].copy_from_slice(&bits(floats::<3>(4)));
     words[second + 4..second + 16].copy_from_slice(&proposed_words(50));

@@ -225,8 +225,9 @@ fn refusal_5_full_graph() {
 fn refusal_6_proposals() {
     let contact = ContactId(0);
     for manifolds in [
-        vec![manifold(1); 7],
-        vec![manifold(1), manifold(33)],
+        vec![manifold(1); MANIFOLDS + 1],
+        vec![manifold(1), manifold(PROPOSED_POINTS + 1)],
+        vec![manifold(33)],
         vec![manifold(1); 500],
     ] {
         step_refused(
@@ -234,7 +235,7 @@ fn refusal_6_proposals() {
             Refusal::ProposalTooLarge,
         );
     }
-    let most = vec![manifold(32); 6];
+    let most = vec![manifold(PROPOSED_POINTS); MANIFOLDS];
     let (mut graph, mut world, _) = touching();
     world.propose(contact, true, &most).unwrap();
     step(&mut graph, &world);
@@ -245,7 +246,11 @@ fn refusal_6_proposals() {
 fn proposals_of_other_ids_are_not_read() {
     let (mut graph, mut world, _) = touching();
     world
-        .propose(ContactId(1), true, &vec![manifold(33); 7])
+        .propose(
+            ContactId(1),
+            true,
+            &vec![manifold(PROPOSED_POINTS + 1); MANIFOLDS + 1],
+        )
         .unwrap();
     step(&mut graph, &world);
 }
@@ -282,11 +287,12 @@ fn refusal_7_shares() {
 
 #[test]
 fn refusals_8_and_6_of_prune() {
-    let points = [PrunePoint::default(); 33];
+    let points = [PrunePoint::default(); PROPOSED_POINTS + 1];
     assert_eq!(prune([0.0; 3], &points[..4]), Err(Refusal::TooFewPoints));
     assert_eq!(prune([0.0; 3], &points), Err(Refusal::ProposalTooLarge));
-    assert!(prune([0.0; 3], &points[..32]).is_ok());
-    for (count, number) in [(0, 8), (4, 8), (33, 6), (u32::MAX, 6)] {
+    assert!(prune([0.0; 3], &points[..PROPOSED_POINTS]).is_ok());
+    let most = PROPOSED_POINTS as u32;
+    for (count, number) in [(0, 8), (4, 8), (most + 1, 6), (33, 6), (u32::MAX, 6)] {
         let mut answer = [7; PRUNE_ANSWER_LENGTH];
         let words = [0; PRUNE_POINTS_LENGTH];
         assert_eq!(

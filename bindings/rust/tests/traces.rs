@@ -132,7 +132,10 @@ fn a_number_out_of_range_is_answered_at_the_go() {
 #[test]
 fn too_large_a_proposal_is_answered_at_the_go() {
     prints(&(manifold(0, 1, 1).repeat(MANIFOLDS) + &touch()), "6\n");
-    prints(&(manifold(0, 1, PROPOSED_POINTS + 1) + &touch()), "6\n");
+    for points in [PROPOSED_POINTS + 1, 33] {
+        prints(&(manifold(0, 1, points) + &touch()), "6\n");
+    }
+    prints(&(manifold(0, 1, PROPOSED_POINTS) + &touch()), STARTED);
     prints(&(manifold(0, 2, PROPOSED_POINTS + 1) + &touch()), STARTED);
 }
 

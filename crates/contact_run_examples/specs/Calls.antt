@@ -20,6 +20,7 @@ use Rattle.step.specs.Step as step
 use Rattle.step.specs.Step.{Given, Rows}
 use Rattle.contact_runs.specs.Runs.{Entry, addition, stepping, impulses}
 use Rattle.contact_runs.specs.Solver.{Write}
+use Rattle.rules.specs.Limits.{proposedPoints}
 use Rattle.contact_run_examples.specs.Seen.{Answer, of-addition, of-step, of-writes, Seen}
 
 -- ---- what a step is given
@@ -59,7 +60,7 @@ settings recycle = 0x3c88_8889 ∷ one ∷ 0x3ba3_d70a ∷ recycle ∷ 0x3f7a_e1
 
 -- a manifold of one point, 0.1 deep, at that place of the axis x and with that feature of both colliders
 unfoldable pub proposedWords : ℕ → ℕ → List ℕ
-proposedWords at feature = 1 ∷ one ∷ 0 ∷ 0 ∷ at ∷ 0 ∷ 0 ∷ at ∷ 0 ∷ 0 ∷ at ∷ 0 ∷ 0 ∷ depth ∷ feature ∷ feature ∷ zeros (31 * proposedPointSize)
+proposedWords at feature = 1 ∷ one ∷ 0 ∷ 0 ∷ at ∷ 0 ∷ 0 ∷ at ∷ 0 ∷ 0 ∷ at ∷ 0 ∷ 0 ∷ depth ∷ feature ∷ feature ∷ zeros ((proposedPoints - 1) * proposedPointSize)
 
 -- that many manifolds, of these two
 unfoldable pub proposalWords : ℕ → List ℕ

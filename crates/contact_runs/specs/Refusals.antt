@@ -39,7 +39,7 @@ plainAddRefusal a g =
 unfoldable pub plainHooksFit : List ℕ → List Pair → Bool
 plainHooksFit proposals ps = allPairs (λ p. hookFits proposals (p .names .id * proposalSize)) ps
 
--- at most 6 manifolds, and 32 points in each, for each active pair
+-- at most `pairManifolds` manifolds, and `proposedPoints` points in each, for each active pair
 unfoldable pub plainProposalsFit : List ℕ → List Pair → Bool
 plainProposalsFit proposals ps = allPairs (λ p. proposalFits proposals (p .names .id * proposalSize)) ps
 

@@ -26,7 +26,7 @@ pub data Answer (Points : Type 0) : Type 0 where
   refused : ℕ → Answer Points
   keeps : Points → Answer Points
 
--- refusals 1, 8, 6, in that order: a length that is not that of 32 points (short sheet), fewer than 5 points (thin manifold), over 32 points (overfull proposal)
+-- refusals 1, 8, 6, in that order: a length that is not that of `proposedPoints` points (short sheet), no more points than are stored (thin manifold), over `proposedPoints` points (overfull proposal)
 unfoldable pub pruneAnswer : Vec3 → List ℕ → ℕ → Answer (List ℕ)
 pruneAnswer normal words count =
     cond (not (eqb (length words) prunePointsLength)) (refused 1)

@@ -10,13 +10,14 @@ use Rattle.math.specs.declared.vec.Vec3.{Vec3}
 use Rattle.rule_laws.specs.NumberLaws.{Found}
 use Rattle.rules.specs.Pruning as rules
 use Rattle.rule_laws.specs.PruningLaws.{Deep, projected-deep, point1-exists, point1-below, point2-exists, point2-below, point3-below, point4-below, kept-same}
+use Rattle.rules.specs.Limits.{proposedPoints}
 use Rattle.contact_types.specs.Pruned.{pointBy, projectedBy, AllProjected, numbered, listedNumber, SidesFound}
 use Rattle.contact_types.specs.PruneStepLaws.{listed-numbered}
 use Rattle.contact_types.specs.declared.pruning.PrunePoint.{PrunePoint}
 use Rattle.contact_types.specs.declared.pruning.Projected.{Projected}
 use Rattle.contact_types.specs.declared.pruning.Sides.{Sides}
 
-module _ (normal : Vec3) (points : List PrunePoint) (ps : List Projected) (count : ℕ) (two : 1 < count) (few : count ≤ 32) (all : AllProjected normal points ps count) where
+module _ (normal : Vec3) (points : List PrunePoint) (ps : List Projected) (count : ℕ) (two : 1 < count) (few : count ≤ proposedPoints) (all : AllProjected normal points ps count) where
   deep : Deep count (projectedBy ps)
   deep k h = subst (λ (x : rules.Projected). T (above (x .depth))) (sym (all .each k h)) (projected-deep normal (pointBy points k))
 

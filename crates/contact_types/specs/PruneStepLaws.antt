@@ -15,6 +15,7 @@ use lib.Seq.{getD-set-same, getD-set-other}
 use Rattle.rules.specs.Numbers.{Leading, Better, greater, less, leader}
 use Rattle.math.specs.Vec.{squaredLength, squaredDistance}
 use Rattle.rules.specs.Pruning.{listed, weight, projected}
+use Rattle.rules.specs.Limits.{proposedPoints}
 use Rattle.contact_types.specs.Pruned.{projectedOf, pointBy, projectedBy, AllProjected, numbered, listedNumber, overtaking, undertaking}
 use Rattle.contact_types.specs.declared.pruning.Lead.{Lead}
 use Rattle.contact_types.specs.declared.pruning.Projected.{Projected}
@@ -53,7 +54,7 @@ unfolding leader
 stands-start better value among start = record { value = refl; index = refl }
 
 -- a number below the limit is listed, and `NONE` is not
-pub listed-numbered : (o : Option ℕ) (n : ℕ) → n ≤ 32 → ((i : ℕ) → o ≡ some i → i < n) → listedNumber (numbered o) ≡ listed o
+pub listed-numbered : (o : Option ℕ) (n : ℕ) → n ≤ proposedPoints → ((i : ℕ) → o ≡ some i → i < n) → listedNumber (numbered o) ≡ listed o
 listed-numbered none n h b = refl
 listed-numbered (some i) n h b = ap (λ (t : Bool). cond t [] (i ∷ [])) (let z = b i refl in ne-eqb i 0xffff_ffff (λ e. omega arith))
 

@@ -1,4 +1,4 @@
-// The public call `prune`: which of 5 to 32 lent points stay.
+// The public call `prune`: which of the lent points stay, where they are more than are stored and no more than are proposed.
 ghost use Prim.Native.Nat.{_*_, _+_, _≤_, _<_};
 ghost use mathlib.Core.Path.{_≡_};
 ghost use lib.ListN.{length};

@@ -22,7 +22,7 @@ use Rattle.words.specs.Words.{wordAt}
 use Rattle.collider.specs.Recorded.{colliderAt, bodyAt}
 use Rattle.layout.specs.Contact.{contactFlags, contactManifolds, contactSize}
 use Rattle.layout.specs.Graph.{contactPlace, graphContacts}
-use Rattle.layout.specs.Proposal.{proposalSize}
+use Rattle.layout.specs.Proposal.{proposalSize, proposedPointSize, proposedPointsSize, proposedManifoldSize}
 use Rattle.proposals.specs.Range.{Proposed}
 use Rattle.proposals.specs.Recorded.{proposedPointAt, proposedPointsAt, proposedManifoldAt, proposalAt, hookAt}
 use Rattle.manifold_records.specs.Counts.{Counted}
@@ -42,6 +42,7 @@ use Rattle.contact_range.specs.Conditions.{RightLength}
 use Rattle.contact_graph.specs.AddedGraphLaws.{right-kept, listedPair, listed-counted}
 use Rattle.contact_graph.specs.RemovedGraphLaws.{pair-id}
 use Rattle.contact_graph.specs.ImpulseLaws.{map-map}
+use Rattle.rules.specs.Limits.{pairManifolds, proposedPoints}
 use Rattle.contact_update.specs.After.{recordUpdated, recordAfter, proposalOf, graphAfter, inputsOf}
 use Rattle.contact_update.specs.Plain.{pairUpdated, plainUpdate}
 use Rattle.contact_update.specs.RecordLaws.{record-length, record-names, record-pair, record-fits}
@@ -61,24 +62,24 @@ module _ {xs ys : List ℕ} where
         feature2 = word-same s 11 tt i;
       }
 
-  proposed-points-same : {a b : ℕ} (n : ℕ) → n ≤ 32 → Same xs a ys b 384 → proposedPointsAt ys b n ≡ proposedPointsAt xs a n
+  proposed-points-same : {a b : ℕ} (n : ℕ) → n ≤ proposedPoints → Same xs a ys b proposedPointsSize → proposedPointsAt ys b n ≡ proposedPointsAt xs a n
   unfolding proposedPointsAt
-  proposed-points-same n l s = map-upto-same _ _ n (λ k h. proposed-point-same (same-in s (k * 12) 12 (row-in n 12 32 k h l)))
+  proposed-points-same n l s = map-upto-same _ _ n (λ k h. proposed-point-same (same-in s (k * proposedPointSize) proposedPointSize (row-in n proposedPointSize proposedPoints k h l)))
 
-  proposed-manifold-same : {a b : ℕ} → wordAt xs a ≤ 32 → Same xs a ys b 388 → proposedManifoldAt ys b ≡ proposedManifoldAt xs a
+  proposed-manifold-same : {a b : ℕ} → wordAt xs a ≤ proposedPoints → Same xs a ys b proposedManifoldSize → proposedManifoldAt ys b ≡ proposedManifoldAt xs a
   unfolding proposedManifoldAt
   proposed-manifold-same {a} {b} l s =
       λ i. record {
         normal = vec3-same (same-in s 1 3 (lit≤ tt)) i;
-        points = (ap (proposedPointsAt ys (b + 4)) (first-same s tt) ∙ proposed-points-same (wordAt xs a) l (same-in s 4 384 (lit≤ tt))) i;
+        points = (ap (proposedPointsAt ys (b + 4)) (first-same s tt) ∙ proposed-points-same (wordAt xs a) l (same-in s 4 proposedPointsSize (lit≤ tt))) i;
       }
 
   pub proposal-same : {a b : ℕ} → Proposed xs a → Same xs a ys b proposalSize → proposalAt ys b ≡ proposalAt xs a
   unfolding proposalAt
   proposal-same {a} {b} c s =
       let n = wordAt xs (a + 1) in
-      ap (λ (m : ℕ). map (λ (k : ℕ). proposedManifoldAt ys (b + 2 + k * 388)) (upto m)) (word-same s 1 tt)
-      ∙ map-upto-same _ _ n (λ k h. proposed-manifold-same (c .points k h) (same-in (same-in s 2 2328 (lit≤ tt)) (k * 388) 388 (row-in n 388 6 k h (c .manifolds))))
+      ap (λ (m : ℕ). map (λ (k : ℕ). proposedManifoldAt ys (b + 2 + k * proposedManifoldSize)) (upto m)) (word-same s 1 tt)
+      ∙ map-upto-same _ _ n (λ k h. proposed-manifold-same (c .points k h) (same-in (same-in s 2 (pairManifolds * proposedManifoldSize) (lit≤ tt)) (k * proposedManifoldSize) proposedManifoldSize (row-in n proposedManifoldSize pairManifolds k h (c .manifolds))))
 
   pub hook-same : {a b : ℕ} → Same xs a ys b proposalSize → hookAt ys b ≡ hookAt xs a
   unfolding hookAt

@@ -15,7 +15,7 @@ pub const MANIFOLDS: usize = 6;
 pub const STORED_POINTS: usize = 4;
 
 // Points of a proposed manifold.
-pub const PROPOSED_POINTS: usize = 32;
+pub const PROPOSED_POINTS: usize = 24;
 
 // Workers of a step, at most.
 pub const MOST_WORKERS: usize = 8;

@@ -26,7 +26,7 @@ pub record KeptNumbers (normal : Vec3) (count : ℕ) (view : List PrunePoint) (r
 
 -- The promise of `place_of`.
 pub record PlaceOf (i r : ℕ) : Type 0 where
-  pub below : r < 32
+  pub below : r < proposedPoints
   pub same : i < proposedPoints → r ≡ i
 
 -- the point of that number

@@ -22,6 +22,7 @@ use Rattle.contact_types.specs.Views.{pointOf}
 use Rattle.contact_types.specs.declared.contact_point.ContactPoint.{ContactPoint}
 use Rattle.contact_types.specs.declared.pruning.KeptPoints.{KeptPoints}
 use Rattle.contact_types.specs.declared.pruning.PrunePoint.{PrunePoint}
+use Rattle.rules.specs.Limits.{proposedPoints}
 use Rattle.narrow_phase.specs.Keeping.{Viewed, KeptNumbers, PlaceOf, Picked, PickedKept}
 use Rattle.narrow_phase.specs.ListLaws.{view-at, length-view, in-range, four-first, none-below, one-below}
 use Rattle.narrow_phase.specs.Views.{firstPoints, PrunedTo}
@@ -71,11 +72,11 @@ view-both points view c p {q} {one} o l h all e = record { each = go }
         ]
 
 -- ---- a point read at its place
-pub picked-at : (points : List ContactPoint) (i : ℕ) {r : ℕ} (d : ContactPoint) → length points ≡ 32 → PlaceOf i r → Picked points i (getD points r d)
+pub picked-at : (points : List ContactPoint) (i : ℕ) {r : ℕ} (d : ContactPoint) → length points ≡ proposedPoints → PlaceOf i r → Picked points i (getD points r d)
 picked-at points i {r} d l p = record { there = λ past h. ap (λ (m : ℕ). getD points m d) (p .same h) ∙ in-range points i d past (omega (arith, l)) }
 
 -- ---- the points picked
-module _ (n : ℕ) (from : List ContactPoint) (few : n ≤ 32) (room : n ≤ length from) where
+module _ (n : ℕ) (from : List ContactPoint) (few : n ≤ proposedPoints) (room : n ≤ length from) where
   abbrev pick : ℕ → Point
   pick x = getD (firstPoints n from) x noPoint
 
@@ -107,7 +108,7 @@ pruned-few normal n from h l p =
     record { points = p .points ∙ sym (rw e); few = p .few; four = p .four }
 
 -- more than four
-module _ (normal : Vec3) (n : ℕ) (from : List ContactPoint) (size : length from ≡ 32) (many : 4 < n) (few : n ≤ 32) where
+module _ (normal : Vec3) (n : ℕ) (from : List ContactPoint) (size : length from ≡ proposedPoints) (many : 4 < n) (few : n ≤ proposedPoints) where
   abbrev seen : ℕ → rules.PrunePoint
   seen k = prunePoint (getD (firstPoints n from) k noPoint)
 
@@ -138,7 +139,7 @@ module _ (normal : Vec3) (n : ℕ) (from : List ContactPoint) (size : length fro
 
 -- ---- both
 -- the first points, by their numbers
-first-picked : (n : ℕ) (from : List ContactPoint) (k : KeptPoints) (r : ManifoldPoints) → n ≤ 4 → length from ≡ 32 → k ≡ record { count = n; first = 0; second = 1; third = 2; fourth = 3 }
+first-picked : (n : ℕ) (from : List ContactPoint) (k : KeptPoints) (r : ManifoldPoints) → n ≤ 4 → length from ≡ proposedPoints → k ≡ record { count = n; first = 0; second = 1; third = 2; fourth = 3 }
     → PickedKept from k r → PrunedTo (firstPoints n from) r
 unfolding firstPoints
 first-picked n from k r h l e p =
@@ -155,7 +156,7 @@ first-picked n from k r h l e p =
       four = ap length (p .four);
     }
 
-module _ (normal : Vec3) (n : ℕ) (from : List ContactPoint) (view : List PrunePoint) (k : KeptPoints) (r : ManifoldPoints) (few : n ≤ 32) (size : length from ≡ 32) where
+module _ (normal : Vec3) (n : ℕ) (from : List ContactPoint) (view : List PrunePoint) (k : KeptPoints) (r : ManifoldPoints) (few : n ≤ proposedPoints) (size : length from ≡ proposedPoints) where
   kept-by : (t : Bool) → ltb 4 n ≡ t → Viewed from view n → KeptNumbers normal n view k → PickedKept from k r → PrunedTo (pruned normal (firstPoints n from)) r
   kept-by true e v b p = let h = ltb-true 4 n e in pruned-many normal n from size h few view k r v (b .many h) (b .most) p
   kept-by false e v b p = let h = ltb-false 4 n e in pruned-few normal n from h (omega (arith, size)) (first-picked n from k r h size (b .few h) p)

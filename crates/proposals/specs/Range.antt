@@ -9,7 +9,7 @@ use Rattle.rules.specs.Numbers.{every}
 use Rattle.words.specs.Words.{wordAt}
 use Rattle.layout.specs.Proposal.{proposalCount, proposalManifolds, proposedManifoldSize}
 
--- at most 6 manifolds, and at most 32 points in each that is counted
+-- at most `pairManifolds` manifolds, and at most `proposedPoints` points in each that is counted
 unfoldable pub proposalFits : List ℕ → ℕ → Bool
 proposalFits xs at =
     leb (wordAt xs (at + proposalCount)) pairManifolds

@@ -62,7 +62,7 @@ pub fn hook_fits(words: &[u32], at: usize) -> bool
     words[at] < 2
 }
 
-// At most 6 manifolds, and at most 32 points in each that is counted.
+// At most as many manifolds as a pair has, and in each that is counted at most as many points as are proposed for one.
 pub fn proposal_fits(words: &[u32], at: usize) -> bool
     requires { ⌜ at + proposalSize ≤ length (now words) ⌝ }
     ensures { λ r. ⌜ r ≡ proposalFits (now (words .entry)) at ⌝ }

@@ -1,8 +1,11 @@
 -- Two lists of an addition and two steps on a graph of capacity 1. In the first, body 2 of the contact is not named, and the contact ends its touch.
 -- In the second, a collider becomes a sensor while the contact touches. Definitions only.
-use Prim.Native.Nat.{ℕ}
+use Prim.Native.Nat.{ℕ, _-_, _*_}
 use mathlib.Core.List.{List, [], _∷_, _++_}
 use lib.Ieee.{ofBits, binary32}
+use Rattle.layout.specs.Body.{bodiesLength, bodySize}
+use Rattle.layout.specs.Collider.{colliderSize, collidersLength}
+use Rattle.layout.specs.Proposal.{proposalManifolds, proposalSize, proposedManifoldPoints, proposedPointSize}
 use Rattle.manifold_records.specs.Written.{zeros}
 use Rattle.contact_graph.specs.declared.call.Request.{Request}
 use Rattle.step.specs.Step.{Given, Rows}
@@ -17,14 +20,14 @@ colliderWords body sensor = 1 ∷ 1 ∷ body ∷ 0 ∷ 0 ∷ 0 ∷ one ∷ one �
 
 -- colliders 0 and 1 lie at the same place
 unfoldable pub colliders : ℕ → List ℕ
-colliders sensor = colliderWords 0 0 ++ colliderWords 1 sensor ++ zeros 5842
+colliders sensor = colliderWords 0 0 ++ colliderWords 1 sensor ++ zeros (collidersLength - 2 * colliderSize)
 
 -- a body that is there, at rest at the origin
 unfoldable pub bodyWords : List ℕ
-bodyWords = 1 ∷ 0 ∷ 0 ∷ 0 ∷ 0 ∷ 0 ∷ 0 ∷ 0 ∷ one ∷ zeros 17
+bodyWords = 1 ∷ 0 ∷ 0 ∷ 0 ∷ 0 ∷ 0 ∷ 0 ∷ 0 ∷ one ∷ zeros (bodySize - 9)
 
 unfoldable pub bodies : List ℕ
-bodies = bodyWords ++ bodyWords ++ zeros 3276
+bodies = bodyWords ++ bodyWords ++ zeros (bodiesLength - 2 * bodySize)
 
 -- recycle distance 0: no pair is recycled (rule 4)
 unfoldable pub settings : List ℕ
@@ -32,7 +35,7 @@ settings = 0x3c88_8889 ∷ one ∷ 0x3ba3_d70a ∷ 0 ∷ 0x3f7a_e148 ∷ 1 ∷ 0
 
 -- that many manifolds, at most one: of one point, 0.1 deep
 unfoldable pub proposals : ℕ → List ℕ
-proposals count = 1 ∷ count ∷ 1 ∷ one ∷ 0 ∷ 0 ∷ 0 ∷ 0 ∷ 0 ∷ 0 ∷ 0 ∷ 0 ∷ 0 ∷ 0 ∷ 0 ∷ 0x3dcc_cccd ∷ 0 ∷ 0 ∷ zeros 2312
+proposals count = 1 ∷ count ∷ 1 ∷ one ∷ 0 ∷ 0 ∷ 0 ∷ 0 ∷ 0 ∷ 0 ∷ 0 ∷ 0 ∷ 0 ∷ 0 ∷ 0 ∷ 0x3dcc_cccd ∷ 0 ∷ 0 ∷ zeros (proposalSize - proposalManifolds - proposedManifoldPoints - proposedPointSize)
 
 -- collider 1 a sensor or not, so many manifolds proposed; one worker has contact 0
 unfoldable pub given : ℕ → ℕ → Given

@@ -19,6 +19,8 @@ use Rattle.rule_laws.specs.PruningLaws.{point1-below, point2-below, point3-belo
 use Rattle.contact_types.specs.Prune.{prunePointAt, refused, keeps, pruneAnswer}
 use Rattle.prune_listing.specs.Listing.{Listing}
 use Rattle.prune_listing.specs.ShapeLaws.{Fours}
+use Rattle.prune_listing.specs.Answers.{room}
+use Rattle.layout.specs.Prune.{prunePointsLength}
 use Rattle.prune_answer.specs.Answer.{pointOf, listingAnswer, Below}
 use Rattle.prune_answer.specs.WriteLaws.{below-append}
 
@@ -40,21 +42,21 @@ point-word (p ∷ ps) (suc k) j f h l =
     let e : 4 * suc k + j ≡ length p + (4 * k + j) = omega (arith, f .0) in
     ap (λ (i : ℕ). getD (p ++ each same ps) i 0) e ∙ getD-append-add p (each same ps) (4 * k + j) 0 ∙ point-word ps k j (f .1) (le-of-suc-le-suc h) l
 
--- the row that the code lends: the words of the first 32 points, then zeros
+-- the row that the code lends: the words of the first points, as many as there is room for, then zeros
 abbrev pub rowOf : List (List ℕ) → List ℕ
-rowOf ps = put (replicate 128 0) 0 (each same (take 32 ps))
+rowOf ps = put (replicate prunePointsLength 0) 0 (each same (take room ps))
 
-pub row-length : (ps : List (List ℕ)) → length (rowOf ps) ≡ 128
-row-length ps = length-put (replicate 128 0) 0 (each same (take 32 ps)) ∙ length-replicate {A = ℕ} 128 0
+pub row-length : (ps : List (List ℕ)) → length (rowOf ps) ≡ prunePointsLength
+row-length ps = length-put (replicate prunePointsLength 0) 0 (each same (take room ps)) ∙ length-replicate {A = ℕ} prunePointsLength 0
 
-module _ (ps : List (List ℕ)) (f : Fours ps) (few : length ps ≤ 32) where
+module _ (ps : List (List ℕ)) (f : Fours ps) (few : length ps ≤ room) where
   row-word : (k j : ℕ) → k < length ps → j < 4 → getD (rowOf ps) (4 * k + j) 0 ≡ getD (getD ps k []) j 0
   row-word k j h l =
       let n = each-length ps f in
-      let z = length-replicate {A = ℕ} 128 0 in
-      ap (λ (qs : List (List ℕ)). getD (put (replicate 128 0) 0 (each same qs)) (4 * k + j) 0) (take-all 32 ps few)
-      ∙ ap (λ (i : ℕ). getD (put (replicate 128 0) 0 (each same ps)) i 0) (sym (zero-add (4 * k + j)))
-      ∙ getD-put (replicate 128 0) 0 (each same ps) (4 * k + j) 0 (omega arith) (omega arith) ∙ point-word ps k j f h l
+      let z = length-replicate {A = ℕ} prunePointsLength 0 in
+      ap (λ (qs : List (List ℕ)). getD (put (replicate prunePointsLength 0) 0 (each same qs)) (4 * k + j) 0) (take-all room ps few)
+      ∙ ap (λ (i : ℕ). getD (put (replicate prunePointsLength 0) 0 (each same ps)) i 0) (sym (zero-add (4 * k + j)))
+      ∙ getD-put (replicate prunePointsLength 0) 0 (each same ps) (4 * k + j) 0 (omega arith) (omega arith) ∙ point-word ps k j f h l
 
   row-point : (k : ℕ) → k < length ps → prunePointAt (rowOf ps) k ≡ pointOf (getD ps k [])
   row-point k h =
@@ -73,14 +75,14 @@ module _ (ps : List (List ℕ)) (f : Fours ps) (few : length ps ≤ 32) where
 pub row-answer : (l : Listing) → Fours (l .points) → pruneAnswer (vec3At (l .normal) 0) (rowOf (l .points)) (length (l .points)) ≡ listingAnswer (some l)
 unfolding pruneAnswer listingAnswer
 row-answer l f =
-    rw (eq-eqb (length (rowOf (l .points))) 128 (row-length (l .points)))
-    (ap (cond (ltb (length (l .points)) 5) (refused 8)) (many (ltb 32 (length (l .points))) refl))
+    rw (eq-eqb (length (rowOf (l .points))) prunePointsLength (row-length (l .points)))
+    (ap (cond (ltb (length (l .points)) 5) (refused 8)) (many (ltb room (length (l .points))) refl))
   where
-    many : (t : Bool) → ltb 32 (length (l .points)) ≡ t
+    many : (t : Bool) → ltb room (length (l .points)) ≡ t
         → cond t (refused 6) (keeps (rules.kept (vec3At (l .normal) 0) (length (l .points)) (prunePointAt (rowOf (l .points)))))
         ≡ cond t (refused 6) (keeps (rules.kept (vec3At (l .normal) 0) (length (l .points)) (λ k. pointOf (getD (l .points) k []))))
     many true e = refl
-    many false e = ap keeps (kept-row (l .points) f (ltb-false 32 (length (l .points)) e) (vec3At (l .normal) 0))
+    many false e = ap keeps (kept-row (l .points) f (ltb-false room (length (l .points)) e) (vec3At (l .normal) 0))
 
 -- ---- numbers of points that stay
 

@@ -31,12 +31,14 @@ use Rattle.text.specs.Text.{Written}
 use Rattle.prune_listing.specs.LinesLaws.{decimal-short}
 use Rattle.prune_listing.specs.Answers.{readingOf, pointsOf, ListingRead}
 use Rattle.prune_listing.specs.ShapeLaws.{listing-shape}
+use Rattle.rules.specs.Limits.{proposedPoints}
+use Rattle.layout.specs.Prune.{prunePointsLength}
 use Rattle.prune_answer.specs.Answer.{listingAnswer, linesOf, answerText, Below, Answered}
 use Rattle.prune_answer.specs.WriteLaws.{below-more}
 use Rattle.prune_answer.specs.AnswerLaws.{row-answer, kept-below}
 
 abbrev zeros : List ℕ
-zeros = replicate 128 0
+zeros = replicate prunePointsLength 0
 
 -- an unreadable text
 pub unreadable-answer : (text : List ℕ) {row : List ℕ} {r : Reading} → ListingRead text zeros row r → r ≡ Unreadable → answerText text ≡ linesOf (plainAnswer (Refused WrongLength))
@@ -97,15 +99,15 @@ answered text out a {out′} {n} h e w =
 
 pub kept-small : (normal : Vec3) (words : List ℕ) (count : ℕ) (numbers : List ℕ) → keeps numbers ≡ pruneAnswer normal words count → Below 1000 numbers
 unfolding pruneAnswer
-kept-small normal words count numbers e = tested (not (eqb (length words) 128)) (ltb count 5) (ltb 32 count) refl e
+kept-small normal words count numbers e = tested (not (eqb (length words) prunePointsLength)) (ltb count 5) (ltb proposedPoints count) refl e
   where
-    tested : (r s t : Bool) → ltb 32 count ≡ t → keeps numbers ≡ cond r (refused 1) (cond s (refused 8) (cond t (refused 6) (keeps (rules.kept normal count (prunePointAt words))))) → Below 1000 numbers
+    tested : (r s t : Bool) → ltb proposedPoints count ≡ t → keeps numbers ≡ cond r (refused 1) (cond s (refused 8) (cond t (refused 6) (keeps (rules.kept normal count (prunePointAt words))))) → Below 1000 numbers
     tested true s t p e = let z : _≡_ {A = ℕ} 0 1 = cc in absurd (omega arith)
     tested false true t p e = let z : _≡_ {A = ℕ} 0 1 = cc in absurd (omega arith)
     tested false false true p e = let z : _≡_ {A = ℕ} 0 1 = cc in absurd (omega arith)
     tested false false false p e =
         let q : numbers ≡ rules.kept normal count (prunePointAt words) = cc in
-        rw q (below-more count 1000 (rules.kept normal count (prunePointAt words)) (omega (arith, ltb-false 32 count p)) (kept-below normal count (prunePointAt words)))
+        rw q (below-more count 1000 (rules.kept normal count (prunePointAt words)) (omega (arith, ltb-false proposedPoints count p)) (kept-below normal count (prunePointAt words)))
 
 pub number-small : (r : Refusal) → numberOf r < 1000
 number-small WrongLength = omega arith

@@ -32,7 +32,7 @@ abbrev pub readingOf : Option Listing → Reading
 readingOf none = Unreadable
 readingOf (some l) = Read (record { x = getD (l .normal) 0 0; y = getD (l .normal) 1 0; z = getD (l .normal) 2 0; count = length (l .points) })
 
--- the words of the first 32 points from the start of the row; the row as it was where nothing is read
+-- the words of the first points, as many as there is room for, from the start of the row; the row as it was where nothing is read
 abbrev pub pointsOf : List ℕ → Option Listing → List ℕ
 pointsOf row none = row
 pointsOf row (some l) = put row 0 (each (λ words. words) (take room (l .points)))

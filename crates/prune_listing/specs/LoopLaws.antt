@@ -11,7 +11,7 @@ use Rattle.rows.specs.Rows.{put, each}
 use Rattle.rows.specs.Laws.{put-next}
 use Rattle.prune_listing.specs.declared.reader.Count.the-variants.{Points, NoPoints}
 use Rattle.prune_listing.specs.Listing.{pointLine, pointLines, allPoints}
-use Rattle.prune_listing.specs.Answers.{countFrom, storedFrom}
+use Rattle.prune_listing.specs.Answers.{countFrom, storedFrom, room}
 use Rattle.prune_listing.specs.LineLaws.{first, points-end, points-bad, points-next}
 
 -- what is left to read at line n of a text, whose first line has 29 bytes with its end, and each other 38
@@ -64,7 +64,7 @@ count-end xs n at c h = sym (c .1 ∙ ap (countFrom n) (points-end (length (drop
 -- ---- storing: k points are stored, and the row was row₀
 
 abbrev pub Stored : List ℕ → List ℕ → ℕ → ℕ → List ℕ → Type 0
-Stored xs row₀ k at row = (k ≤ 32) × Line k at × IsSome (left xs k at) × (storedFrom row₀ 0 (allPoints (drop 29 xs)) ≡ storedFrom row k (left xs k at))
+Stored xs row₀ k at row = (k ≤ room) × Line k at × IsSome (left xs k at) × (storedFrom row₀ 0 (allPoints (drop 29 xs)) ≡ storedFrom row k (left xs k at))
 
 pub store-none : (xs row : List ℕ) → IsSome (allPoints (drop 29 xs)) → Stored xs row 0 29 row
 store-none xs row s = (omega arith, refl, subst IsSome (left-all xs) s, ap (storedFrom row 0) (left-all xs))
@@ -72,7 +72,7 @@ store-none xs row s = (omega arith, refl, subst IsSome (left-all xs) s, ap (stor
 pub store-bad : (xs row₀ : List ℕ) (k at : ℕ) (row : List ℕ) → Stored xs row₀ k at row → at < length xs → pointLine (drop at xs) ≡ none → ⊥
 store-bad xs row₀ k at row s h e = subst IsSome (left-bad xs k at (s .1) h e) (s .2)
 
-pub store-next : (xs row₀ : List ℕ) (k at : ℕ) (row p row′ : List ℕ) → Stored xs row₀ k at row → k < 32 → at < length xs
+pub store-next : (xs row₀ : List ℕ) (k at : ℕ) (row p row′ : List ℕ) → Stored xs row₀ k at row → k < room → at < length xs
     → pointLine (drop at xs) ≡ some (record { value = p; rest = drop (at + 38) xs }) → length p ≡ 4 → row′ ≡ put row (4 * k) p
     → Stored xs row₀ (k + 1) (at + 38) row′
 store-next xs row₀ k at row p row′ s l h e four w =
@@ -83,25 +83,25 @@ store-next xs row₀ k at row p row′ s l h e four w =
     more : (o : Option (List (List ℕ))) → IsSome (first p o) → IsSome o × (storedFrom row k (first p o) ≡ storedFrom (put row (4 * k) p) (k + 1) o)
     more none i = absurd i
     more (some others) i =
-        let a : 32 - k ≡ suc (32 - (k + 1)) = omega arith in
+        let a : room - k ≡ suc (room - (k + 1)) = omega arith in
         let b : 4 * k + 4 ≡ 4 * (k + 1) = omega arith in (
           tt,
           ap (λ (n : ℕ). put row (4 * k) (each (λ words. words) (take n (p ∷ others)))) a
-              ∙ sym (put-next row (4 * k) p (each (λ words. words) (take (32 - (k + 1)) others)) 4 four)
-              ∙ ap (λ (n : ℕ). put (put row (4 * k) p) n (each (λ words. words) (take (32 - (k + 1)) others))) b,
+              ∙ sym (put-next row (4 * k) p (each (λ words. words) (take (room - (k + 1)) others)) 4 four)
+              ∙ ap (λ (n : ℕ). put (put row (4 * k) p) n (each (λ words. words) (take (room - (k + 1)) others))) b,
         )
 
 pub store-end : (xs row₀ : List ℕ) (k at : ℕ) (row : List ℕ) → Stored xs row₀ k at row → length xs ≤ at → row ≡ storedFrom row₀ 0 (allPoints (drop 29 xs))
 unfolding put
 store-end xs row₀ k at row s h =
-    sym (s .3 ∙ ap (storedFrom row k) (points-end (length (drop 29 xs) - k) xs at h) ∙ ap (λ (ps : List (List ℕ)). put row (4 * k) (each (λ words. words) ps)) (take-nil (32 - k)))
+    sym (s .3 ∙ ap (storedFrom row k) (points-end (length (drop 29 xs) - k) xs at h) ∙ ap (λ (ps : List (List ℕ)). put row (4 * k) (each (λ words. words) ps)) (take-nil (room - k)))
 
-pub store-full : (xs row₀ : List ℕ) (k at : ℕ) (row : List ℕ) → Stored xs row₀ k at row → 32 ≤ k → row ≡ storedFrom row₀ 0 (allPoints (drop 29 xs))
+pub store-full : (xs row₀ : List ℕ) (k at : ℕ) (row : List ℕ) → Stored xs row₀ k at row → room ≤ k → row ≡ storedFrom row₀ 0 (allPoints (drop 29 xs))
 unfolding put
 store-full xs row₀ k at row s h =
-    let e : k ≡ 32 = omega arith in
+    let e : k ≡ room = omega arith in
     sym (s .3 ∙ ap (λ (n : ℕ). storedFrom row n (left xs k at)) e ∙ full (left xs k at))
   where
-    full : (o : Option (List (List ℕ))) → storedFrom row 32 o ≡ row
+    full : (o : Option (List (List ℕ))) → storedFrom row room o ≡ row
     full none = refl
     full (some others) = refl

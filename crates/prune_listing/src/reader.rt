@@ -82,7 +82,7 @@ fn store_points(text: &[u8], points: &mut [u32; PRUNE_POINTS_LENGTH])
     }
 }
 
-// Reads a listing. The row takes the first 32 points, four words each; it is left alone where the text is unreadable.
+// Reads a listing. The row takes the first points, four words each, as many as there is room for; it is left alone where the text is unreadable.
 pub fn read_listing(text: &[u8], points: &mut [u32; PRUNE_POINTS_LENGTH]) -> Reading
     ensures { λ r. ⌜ ListingRead (now (text .entry)) (now (points .entry)) (now (points .exit)) r ⌝ }
 {

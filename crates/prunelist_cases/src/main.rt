@@ -25,7 +25,8 @@ fn main() {
     print_case(b"c3_two_equal");
     print_case(b"c4_nan");
     print_case(b"four_points");
-    print_case(b"32_points");
+    print_case(b"most_points");
+    print_case(b"too_many_points");
     print_case(b"33_points");
     print_case(b"normal_alone");
     print_case(b"lower_case");

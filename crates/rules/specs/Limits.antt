@@ -7,7 +7,7 @@ storedPoints = 4
 
 -- points of a proposed manifold
 abbrev pub proposedPoints : ℕ
-proposedPoints = 32
+proposedPoints = 24
 
 -- manifolds of a pair
 abbrev pub pairManifolds : ℕ

@@ -13,7 +13,7 @@ use Rattle.layout.specs.Body.{bodiesLength}
 use Rattle.layout.specs.Change.{changesLength}
 use Rattle.layout.specs.Collider.{collidersLength}
 use Rattle.layout.specs.Event.{eventsLength}
-use Rattle.layout.specs.Proposal.{proposalSize}
+use Rattle.layout.specs.Proposal.{proposalSize, proposedManifoldSize}
 use Rattle.layout.specs.Settings.{settingsLength}
 use Rattle.layout.specs.Shares.{sharesLength}
 use Rattle.collider.specs.Range.{settingsFit, collidersFit, bodiesFit}
@@ -214,9 +214,9 @@ own-proposed proposals id p =
     record {
       manifolds = omega arith;
       points =
-          λ k b. let e = word (2 + k * 388) (omega arith) in
+          λ k b. let e = word (2 + k * proposedManifoldSize) (omega arith) in
           let f = p .points k (omega arith) in
-          let s : wordAt proposals (at + (2 + k * 388)) ≡ wordAt proposals (at + 2 + k * 388) = ap (wordAt proposals) (omega arith) in
+          let s : wordAt proposals (at + (2 + k * proposedManifoldSize)) ≡ wordAt proposals (at + 2 + k * proposedManifoldSize) = ap (wordAt proposals) (omega arith) in
           omega arith;
     }
 

@@ -83,7 +83,7 @@ rowsInRange settings colliders bodies proposals g = settingsFit settings && (col
 abbrev pub numbersFit : Given → List ℕ → Bool
 numbersFit x g = rowsInRange (x .settings) (x .colliders) (x .bodies) (x .proposals) g
 
--- 6: over 6 manifolds in an active pair's proposal, or 32 points in a manifold of it
+-- 6: over `pairManifolds` manifolds in an active pair's proposal, or over `proposedPoints` points in a manifold of it
 unfoldable pub proposalsFit : List ℕ → List ℕ → Bool
 proposalsFit proposals g = every (λ p. proposalFits proposals (listedAt g p * proposalSize)) (listedCount g)
 

@@ -11,6 +11,7 @@ use Rattle.contact_range.specs.Range.{rightLength}
 use Rattle.contact_range.specs.RangeLaws.{right-length, counts, listed-below}
 use Rattle.contact_range.specs.Recorded.{capacityOf, listedCount, listedAt}
 use Rattle.contact_range.specs.Conditions.{RightLength}
+use Rattle.layout.specs.Proposal.{proposalSize}
 
 -- the first test fails, or holds and the rest decides
 pub first-fails : {a : Bool} (b : Bool) → a ≡ false → false ≡ a && b
@@ -24,9 +25,9 @@ module _ {g : List ℕ} (c : Checked g) (p : ℕ) (l : p < listedCount g) where
   pub record PairPlaces (size : ℕ) : Type 0 where
     pub listed : 4 + p < length g
     pub few : listedAt g p < 256
-    pub room : listedAt g p * 2330 + 2330 ≤ size
+    pub room : listedAt g p * proposalSize + proposalSize ≤ size
 
-  pub pair-places : {size : ℕ} → size ≡ capacityOf g * 2330 → PairPlaces size
+  pub pair-places : {size : ℕ} → size ≡ capacityOf g * proposalSize → PairPlaces size
   pair-places e =
       let b = listed-below (c .range) p l in
       let n = counts (c .range) .listed in

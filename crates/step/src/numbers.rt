@@ -48,7 +48,7 @@ fn hooks_fit(proposals: &[u32], graph: &[u32]) -> bool
     true
 }
 
-// At most 6 manifolds for each active pair, and 32 points in each.
+// No active pair's proposal has more manifolds, nor a manifold of it more points, than the limits.
 pub fn proposals_fit(proposals: &[u32], graph: &[u32]) -> bool
     requires { ⌜ Checked (now graph) × (length (now proposals) ≡ capacityOf (now graph) * proposalSize) ⌝ }
     ensures { λ r. ⌜ r ≡ proposalsFit (now (proposals .entry)) (now (graph .entry)) ⌝ }

@@ -40,7 +40,7 @@ layout! {
     BODIES = 128;
     MANIFOLDS = 6;
     STORED_POINTS = 4;
-    PROPOSED_POINTS = 32;
+    PROPOSED_POINTS = 24;
     MOST_WORKERS = 8;
 
     // A graph: the head, then the list, the free ids and the records.

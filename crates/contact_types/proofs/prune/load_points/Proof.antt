@@ -4,13 +4,14 @@ use Prim.Native.Nat.{_≤_, _-_}
 use native.Mathlib.Omega.{arith}
 use borrow.Author.Needs.{needs}
 use lib.ListN.{length, length-set}
+use Rattle.rules.specs.Limits.{proposedPoints}
 use Rattle.contact_types.specs.Prune.{LoadedPoints}
 use Rattle.contact_types.specs.PruneLoadLaws.{loaded-step}
 use Rattle.contact_types.proofs.prune.load_points.Statement.{statement}
 use Rattle.contact_types.proofs.prune.load_points.Tie as tie
 
 abbrev Inv-loop : tie.InvT-loop
-Inv-loop points count loaded₀ k₀ loaded k = (k ≤ count) × (length loaded ≡ 32) × LoadedPoints points loaded k
+Inv-loop points count loaded₀ k₀ loaded k = (k ≤ count) × (length loaded ≡ proposedPoints) × LoadedPoints points loaded k
 
 abbrev μ-loop : tie.MeasureT-loop
 μ-loop points count loaded₀ k₀ loaded k = count - k

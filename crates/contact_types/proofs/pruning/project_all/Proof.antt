@@ -4,13 +4,14 @@ use Prim.Native.Nat.{_≤_, _-_}
 use native.Mathlib.Omega.{arith}
 use borrow.Author.Needs.{needs}
 use lib.ListN.{length, length-set}
+use Rattle.rules.specs.Limits.{proposedPoints}
 use Rattle.contact_types.specs.Pruned.{AllProjected}
 use Rattle.contact_types.specs.PruneStepLaws.{projected-step}
 use Rattle.contact_types.proofs.pruning.project_all.Statement.{statement}
 use Rattle.contact_types.proofs.pruning.project_all.Tie as tie
 
 abbrev Inv-loop : tie.InvT-loop
-Inv-loop count normal points ps₀ k₀ ps k = (k ≤ count) × (length ps ≡ 32) × AllProjected normal points ps k
+Inv-loop count normal points ps₀ k₀ ps k = (k ≤ count) × (length ps ≡ proposedPoints) × AllProjected normal points ps k
 
 abbrev μ-loop : tie.MeasureT-loop
 μ-loop count normal points ps₀ k₀ ps k = count - k

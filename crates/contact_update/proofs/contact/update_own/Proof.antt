@@ -5,6 +5,7 @@ use native.Mathlib.Omega.{arith}
 use Rattle.rows.specs.Rows.{part}
 use Rattle.collider.specs.Views.{plainSettings}
 use Rattle.contact_range.specs.RangeLaws.{standing-below}
+use Rattle.layout.specs.Proposal.{proposalSize}
 use Rattle.contact_update.specs.ContactLaws.{OwnRoom, own-room, lent-part, parts-ready, own-updated}
 use borrow.Author.Needs.{needs}
 use Rattle.contact_update.proofs.contact.update_own.Statement.{statement}
@@ -46,18 +47,18 @@ part-own-end c = let z = room (c .before .before) in omega (arith, z .record-roo
 update-record-requires : tie.Need-update-record-requires
 update-record-requires c κs =
     let x = c .before .before .before .before .before .before .before .before .before .args in
-    let from = x .id .0 * 2330 in
+    let from = x .id .0 * proposalSize in
     let at = c .before .before .before .contact-at .result in
-    let p = lent-part (x .proposals .now) from (from + 2330 - from) 2330 (omega arith) in
+    let p = lent-part (x .proposals .now) from (from + proposalSize - from) proposalSize (omega arith) in
     let w = lent-part (x .graph .now) at (at + 523 - at) 523 (omega arith) ∙ ap (λ (a : ℕ). part (x .graph .now) a 523) (c .before .before .before .contact-at .ensures .place) in
     parts-ready (plainSettings (x .s)) (c .before .before .before .before .before .before .before .before .before .pre) _ _ p w
 
 returns : tie.Need-returns
 returns c =
     let x = c .before .before .before .before .before .before .before .before .before .before .before .before .args in
-    let from = x .id .0 * 2330 in
+    let from = x .id .0 * proposalSize in
     let at = c .before .before .before .before .before .before .contact-at .result in
-    let p = lent-part (x .proposals .now) from (from + 2330 - from) 2330 (omega arith) in
+    let p = lent-part (x .proposals .now) from (from + proposalSize - from) proposalSize (omega arith) in
     own-updated _ (c .before .before .before .before .before .before .before .before .before .before .before .before .pre) _ _ _ _ p refl (c .before .before .update-record .ensures) (c .before .before .before .before .before .before .contact-at .ensures .place) (let e : at + 523 - at ≡ 523 = omega arith in e)
 
 pub update-own-spec : {M : Type 1} → statement M

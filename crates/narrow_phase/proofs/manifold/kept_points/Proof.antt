@@ -8,6 +8,7 @@ use Rattle.rows.specs.Slots.{upto}
 use Rattle.rules.specs.Filtering.{movedPoint, staying}
 use Rattle.collider.specs.Views.{plainSide}
 use Rattle.proposals.specs.Recorded.{proposedPointsAt}
+use Rattle.rules.specs.Limits.{proposedPoints}
 use Rattle.narrow_phase.specs.Keeping.{Viewed}
 use Rattle.narrow_phase.specs.KeepingLaws.{view-both, picked-at, kept-picked}
 use Rattle.narrow_phase.specs.ListLaws.{one-most}
@@ -19,7 +20,7 @@ use Rattle.narrow_phase.proofs.manifold.kept_points.Tie as tie
 
 abbrev Inv-loop : tie.InvT-loop
 Inv-loop words at n normal step-time a b margins distance points₀ view₀ count₀ k₀ points view count k =
-    (k ≤ n) × (count ≤ k) × (length points ≡ 32) × (length view ≡ 32) × (firstPoints count points ≡ staying step-time distance (map (movedPoint (plainSide a) (plainSide b) margins normal) (proposedPointsAt words at k))) × Viewed points view count
+    (k ≤ n) × (count ≤ k) × (length points ≡ proposedPoints) × (length view ≡ proposedPoints) × (firstPoints count points ≡ staying step-time distance (map (movedPoint (plainSide a) (plainSide b) margins normal) (proposedPointsAt words at k))) × Viewed points view count
 
 abbrev μ-loop : tie.MeasureT-loop
 μ-loop words at n normal step-time a b margins distance points₀ view₀ count₀ k₀ points view count k = n - k

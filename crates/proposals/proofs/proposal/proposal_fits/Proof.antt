@@ -1,4 +1,4 @@
--- `proposals::proposal::proposal_fits` meets its contract: the manifolds passed have at most 32 points. Assumes nothing.
+-- `proposals::proposal::proposal_fits` meets its contract: the manifolds passed have no more points than the limit. Assumes nothing.
 use mathlib.Core.Path.{_≡_, refl}
 use mathlib.Core.List.{List}
 use mathlib.Core.Bool.{Bool, true}
@@ -9,16 +9,18 @@ use lib.Dec.{leb}
 use Rattle.words.specs.Words.{wordAt}
 use Rattle.rules.specs.Numbers.{every}
 use Rattle.rule_laws.specs.NumberLaws.{every-next, every-fails}
+use Rattle.rules.specs.Limits.{proposedPoints}
+use Rattle.layout.specs.Proposal.{proposedManifoldSize}
 use Rattle.proposals.specs.Range.{proposalFits}
 use borrow.Author.Needs.{needs}
 use Rattle.proposals.proofs.proposal.proposal_fits.Statement.{statement}
 use Rattle.proposals.proofs.proposal.proposal_fits.Tie as tie
 
 abbrev points : List ℕ → ℕ → ℕ → ℕ
-points words at k = wordAt words (at + 2 + k * 388)
+points words at k = wordAt words (at + 2 + k * proposedManifoldSize)
 
 abbrev test : List ℕ → ℕ → ℕ → Bool
-test words at k = leb (points words at k) 32
+test words at k = leb (points words at k) proposedPoints
 
 abbrev Inv-loop : tie.InvT-loop
 Inv-loop words at count k₀ k = (k ≤ count) × (every (test words at) k ≡ true)
@@ -44,13 +46,13 @@ returns-2 c =
     let n = c .before .before .before .before .before .load-word in
     let w = c .before .before .before .loop in
     let few = le-leb (wordAt (a .words .now) (a .at + 1)) 6 (omega (arith, n .ensures, c .before .before .before .before .if1 .left)) in
-    rw (few, ← n .ensures, every-fails (test (a .words .now) (a .at)) (n .result) (w .k) (search needs) (lt-leb (points (a .words .now) (a .at) (w .k)) 32 (search needs)))
+    rw (few, ← n .ensures, every-fails (test (a .words .now) (a .at)) (n .result) (w .k) (search needs) (lt-leb (points (a .words .now) (a .at) (w .k)) proposedPoints (search needs)))
 
 loop-again : tie.Need-loop-again Inv-loop μ-loop
 loop-again c =
     let a = c .before .before .before .before .before .before .before .args in
     let w = c .before .before .before .loop in
-    (search needs, every-next (test (a .words .now) (a .at)) (w .k) (w .inv .1) (le-leb (points (a .words .now) (a .at) (w .k)) 32 (search needs)))
+    (search needs, every-next (test (a .words .now) (a .at)) (w .k) (w .inv .1) (le-leb (points (a .words .now) (a .at) (w .k)) proposedPoints (search needs)))
 
 returns-3 : tie.Need-returns-3 Inv-loop μ-loop
 unfolding proposalFits

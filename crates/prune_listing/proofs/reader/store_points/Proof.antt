@@ -2,7 +2,7 @@
 use mathlib.Core.Path.{refl}
 use Prim.Native.Nat.{_-_}
 use borrow.Author.Needs.{needs}
-use Rattle.prune_listing.specs.Answers.{pointWords}
+use Rattle.prune_listing.specs.Answers.{pointWords, room}
 use Rattle.prune_listing.specs.LoopLaws.{Stored, store-none, store-bad, store-next, store-end, store-full}
 use Rattle.prune_listing.proofs.reader.store_points.Statement.{statement}
 use Rattle.prune_listing.proofs.reader.store_points.Tie as tie
@@ -11,7 +11,7 @@ abbrev Inv-loop : tie.InvT-loop
 Inv-loop text points₀ k₀ at₀ points k at = Stored text points₀ k at points
 
 abbrev μ-loop : tie.MeasureT-loop
-μ-loop text points₀ k₀ at₀ points k at = 32 - k
+μ-loop text points₀ k₀ at₀ points k at = room - k
 
 loop-holds : tie.Need-loop-holds Inv-loop μ-loop
 loop-holds c = store-none (c .before .args .text .now) (c .before .args .points .now) (c .before .pre .1)
