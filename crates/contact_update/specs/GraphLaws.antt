@@ -22,7 +22,7 @@ use Rattle.words.specs.Words.{wordAt}
 use Rattle.collider.specs.Recorded.{colliderAt, bodyAt}
 use Rattle.layout.specs.Contact.{contactFlags, contactManifolds, contactSize}
 use Rattle.layout.specs.Graph.{contactPlace, graphContacts}
-use Rattle.layout.specs.Proposal.{proposalSize, proposedPointSize, proposedPointsSize, proposedManifoldSize}
+use Rattle.layout.specs.Proposal.{proposalCount, proposalManifolds, proposalSize, proposedManifoldNormal, proposedManifoldPoints, proposedManifoldSize, proposedPointAnchor2, proposedPointFeature2, proposedPointFeatures, proposedPointPenetration, proposedPointPosition, proposedPointSize, proposedPointsSize}
 use Rattle.proposals.specs.Range.{Proposed}
 use Rattle.proposals.specs.Recorded.{proposedPointAt, proposedPointsAt, proposedManifoldAt, proposalAt, hookAt}
 use Rattle.manifold_records.specs.Counts.{Counted}
@@ -49,17 +49,17 @@ use Rattle.contact_update.specs.RecordLaws.{record-length, record-names,
 
 -- ---- a proposal is what its words say
 module _ {xs ys : List ℕ} where
-  proposed-point-same : {a b : ℕ} → Same xs a ys b 12 → proposedPointAt ys b ≡ proposedPointAt xs a
+  proposed-point-same : {a b : ℕ} → Same xs a ys b proposedPointSize → proposedPointAt ys b ≡ proposedPointAt xs a
   unfolding proposedPointAt
   proposed-point-same {a} {b} s =
       let first : Same xs a ys b 3 = record { each = λ j l. s .each j (omega arith) } in
       λ i. record {
         anchor1 = vec3-same first i;
-        anchor2 = vec3-same (same-in s 3 3 (lit≤ tt)) i;
-        point = vec3-same (same-in s 6 3 (lit≤ tt)) i;
-        penetration = ofBits binary32 (word-same s 9 tt i);
-        feature1 = word-same s 10 tt i;
-        feature2 = word-same s 11 tt i;
+        anchor2 = vec3-same (same-in s proposedPointAnchor2 3 (lit≤ tt)) i;
+        point = vec3-same (same-in s proposedPointPosition 3 (lit≤ tt)) i;
+        penetration = ofBits binary32 (word-same s proposedPointPenetration tt i);
+        feature1 = word-same s proposedPointFeatures tt i;
+        feature2 = word-same s proposedPointFeature2 tt i;
       }
 
   proposed-points-same : {a b : ℕ} (n : ℕ) → n ≤ proposedPoints → Same xs a ys b proposedPointsSize → proposedPointsAt ys b n ≡ proposedPointsAt xs a n
@@ -70,16 +70,16 @@ module _ {xs ys : List ℕ} where
   unfolding proposedManifoldAt
   proposed-manifold-same {a} {b} l s =
       λ i. record {
-        normal = vec3-same (same-in s 1 3 (lit≤ tt)) i;
-        points = (ap (proposedPointsAt ys (b + 4)) (first-same s tt) ∙ proposed-points-same (wordAt xs a) l (same-in s 4 proposedPointsSize (lit≤ tt))) i;
+        normal = vec3-same (same-in s proposedManifoldNormal 3 (lit≤ tt)) i;
+        points = (ap (proposedPointsAt ys (b + proposedManifoldPoints)) (first-same s tt) ∙ proposed-points-same (wordAt xs a) l (same-in s proposedManifoldPoints proposedPointsSize (lit≤ tt))) i;
       }
 
   pub proposal-same : {a b : ℕ} → Proposed xs a → Same xs a ys b proposalSize → proposalAt ys b ≡ proposalAt xs a
   unfolding proposalAt
   proposal-same {a} {b} c s =
-      let n = wordAt xs (a + 1) in
-      ap (λ (m : ℕ). map (λ (k : ℕ). proposedManifoldAt ys (b + 2 + k * proposedManifoldSize)) (upto m)) (word-same s 1 tt)
-      ∙ map-upto-same _ _ n (λ k h. proposed-manifold-same (c .points k h) (same-in (same-in s 2 (pairManifolds * proposedManifoldSize) (lit≤ tt)) (k * proposedManifoldSize) proposedManifoldSize (row-in n proposedManifoldSize pairManifolds k h (c .manifolds))))
+      let n = wordAt xs (a + proposalCount) in
+      ap (λ (m : ℕ). map (λ (k : ℕ). proposedManifoldAt ys (b + proposalManifolds + k * proposedManifoldSize)) (upto m)) (word-same s proposalCount tt)
+      ∙ map-upto-same _ _ n (λ k h. proposed-manifold-same (c .points k h) (same-in (same-in s proposalManifolds (pairManifolds * proposedManifoldSize) (lit≤ tt)) (k * proposedManifoldSize) proposedManifoldSize (row-in n proposedManifoldSize pairManifolds k h (c .manifolds))))
 
   pub hook-same : {a b : ℕ} → Same xs a ys b proposalSize → hookAt ys b ≡ hookAt xs a
   unfolding hookAt

@@ -13,7 +13,7 @@ use Rattle.layout.specs.Body.{bodiesLength}
 use Rattle.layout.specs.Change.{changesLength}
 use Rattle.layout.specs.Collider.{collidersLength}
 use Rattle.layout.specs.Event.{eventsLength}
-use Rattle.layout.specs.Proposal.{proposalSize, proposedManifoldSize}
+use Rattle.layout.specs.Proposal.{proposalCount, proposalManifolds, proposalSize, proposedManifoldSize}
 use Rattle.layout.specs.Settings.{settingsLength}
 use Rattle.layout.specs.Shares.{sharesLength}
 use Rattle.collider.specs.Range.{settingsFit, collidersFit, bodiesFit}
@@ -209,14 +209,14 @@ own-proposed : (proposals : List ℕ) (id : ℕ) → Proposed proposals (id * pr
 own-proposed proposals id p =
     let at = id * proposalSize in
     let word : (i : ℕ) → i < proposalSize → wordAt (proposalOf proposals id) i ≡ wordAt proposals (at + i) = λ i b. getD-part proposals at proposalSize i 0 b in
-    let count = word 1 (omega arith) in
+    let count = word proposalCount (omega arith) in
     let few = p .manifolds in
     record {
       manifolds = omega arith;
       points =
-          λ k b. let e = word (2 + k * proposedManifoldSize) (omega arith) in
+          λ k b. let e = word (proposalManifolds + k * proposedManifoldSize) (omega arith) in
           let f = p .points k (omega arith) in
-          let s : wordAt proposals (at + (2 + k * proposedManifoldSize)) ≡ wordAt proposals (at + 2 + k * proposedManifoldSize) = ap (wordAt proposals) (omega arith) in
+          let s : wordAt proposals (at + (proposalManifolds + k * proposedManifoldSize)) ≡ wordAt proposals (at + proposalManifolds + k * proposedManifoldSize) = ap (wordAt proposals) (omega arith) in
           omega arith;
     }
 

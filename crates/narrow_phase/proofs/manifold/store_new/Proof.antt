@@ -10,7 +10,7 @@ use Rattle.rules.specs.Filtering.{filtered, withoutEmpty}
 use Rattle.collider.specs.Views.{plainSide}
 use Rattle.contact_parameters.specs.Views.{plainSurface}
 use Rattle.proposals.specs.Recorded.{proposedManifoldAt}
-use Rattle.layout.specs.Proposal.{proposedManifoldSize}
+use Rattle.layout.specs.Proposal.{proposalManifolds, proposedManifoldSize}
 use Rattle.narrow_phase.specs.StoringLaws.{manifold-counts, manifold-goes, manifolds-length, all-stored}
 use Rattle.narrow_phase.specs.Views.{ManifoldsStored}
 use borrow.Author.Needs.{needs}
@@ -20,7 +20,7 @@ use Rattle.narrow_phase.proofs.manifold.store_new.Tie as tie
 abbrev Inv-loop : tie.InvT-loop
 Inv-loop proposal step-time a b f words₀ to n count₀ k₀ words count k =
     (k ≤ n) × (n ≤ 6) × (count ≤ k)
-    × ManifoldsStored (withoutEmpty (map (filtered step-time (plainSide a) (plainSide b) (plainSurface f)) (map (λ j. proposedManifoldAt proposal (2 + j * proposedManifoldSize)) (upto k)))) to words₀ words count
+    × ManifoldsStored (withoutEmpty (map (filtered step-time (plainSide a) (plainSide b) (plainSurface f)) (map (λ j. proposedManifoldAt proposal (proposalManifolds + j * proposedManifoldSize)) (upto k)))) to words₀ words count
 
 abbrev μ-loop : tie.MeasureT-loop
 μ-loop proposal step-time a b f words₀ to n count₀ k₀ words count k = n - k
@@ -60,8 +60,8 @@ loop-again c =
       w .inv .1,
       ⊎-elim (λ z. omega arith) (λ z. omega arith) (c .if1 .came),
       elim (c .if1 .came) [
-        | inl z ↦ manifold-counts _ (λ j. proposedManifoldAt _ (2 + j * proposedManifoldSize)) (w .k) _ _ (w .count) (w .inv .3) (m .store-filtered .ensures) (λ e. omega (arith, e, z .0 .taken)) few (z .1)
-        | inr z ↦ manifold-goes _ (λ j. proposedManifoldAt _ (2 + j * proposedManifoldSize)) (w .k) _ _ (w .count) (w .inv .3) (m .store-filtered .ensures) (omega (arith, z .0 .left)) (z .1)
+        | inl z ↦ manifold-counts _ (λ j. proposedManifoldAt _ (proposalManifolds + j * proposedManifoldSize)) (w .k) _ _ (w .count) (w .inv .3) (m .store-filtered .ensures) (λ e. omega (arith, e, z .0 .taken)) few (z .1)
+        | inr z ↦ manifold-goes _ (λ j. proposedManifoldAt _ (proposalManifolds + j * proposedManifoldSize)) (w .k) _ _ (w .count) (w .inv .3) (m .store-filtered .ensures) (omega (arith, z .0 .left)) (z .1)
       ],
     )
 

@@ -10,14 +10,14 @@ use Rattle.words.specs.Words.{wordAt}
 use Rattle.rules.specs.Numbers.{every}
 use Rattle.rule_laws.specs.NumberLaws.{every-next, every-fails}
 use Rattle.rules.specs.Limits.{proposedPoints}
-use Rattle.layout.specs.Proposal.{proposedManifoldSize}
+use Rattle.layout.specs.Proposal.{proposalManifolds, proposedManifoldSize}
 use Rattle.proposals.specs.Range.{proposalFits}
 use borrow.Author.Needs.{needs}
 use Rattle.proposals.proofs.proposal.proposal_fits.Statement.{statement}
 use Rattle.proposals.proofs.proposal.proposal_fits.Tie as tie
 
 abbrev points : List ℕ → ℕ → ℕ → ℕ
-points words at k = wordAt words (at + 2 + k * proposedManifoldSize)
+points words at k = wordAt words (at + proposalManifolds + k * proposedManifoldSize)
 
 abbrev test : List ℕ → ℕ → ℕ → Bool
 test words at k = leb (points words at k) proposedPoints
