@@ -22,8 +22,9 @@ def line(letter, *fields): return '\t'.join([letter] + [str(f) for f in fields])
 def A(a, b, body1='own', body2='own', events=1, modify=0, distance=ZERO):
     return line('A', a, b, a if body1 == 'own' else body1, b if body2 == 'own' else body2, events, modify, distance)
 
-def T(tolerance=TOLERANCE, recycle=ZERO, match=1):
-    return line('T', '3C800000', ONE, tolerance, recycle, COSINE, match, HALF, 1, ZERO, 1)
+# The fields after the tenth: none, or that of the matching setting.
+def T(*matching, tolerance=TOLERANCE, recycle=ZERO, match=1):
+    return line('T', '3C800000', ONE, tolerance, recycle, COSINE, match, HALF, 1, ZERO, 1, *matching)
 
 # A box from -1 to 1, or along x from 10 to 10, where it meets no other; it belongs to the body of its number.
 def C(n, body='own', far=False, memberships=1, filters=4294967295, sensor=0):
@@ -47,7 +48,7 @@ def world(*numbers): return ''.join(C(n) + B(n, int(n == 0)) for n in numbers)
 MARK = A(3, 3)
 
 # A go of colliders 0 and 1, with more lines above it.
-def go(*more): return T() + world(0, 1) + ''.join(more) + G
+def go(*more, settings=T()): return settings + world(0, 1) + ''.join(more) + G
 
 # ---- what is printed
 
@@ -64,7 +65,7 @@ PART = ended(0, 0, 1) + stop(0, 0, 1)
 
 # The listed format's own example; what it prints stands there.
 FIRST = A(0, '01') + T() + C(0) + C(1) + B(0, 1) + B(1) + M(1, 0) + P('3c23d70a') + G
-EXAMPLE = FIRST + A(1, 0, '-', '-', 0) + T() + C(0) + C(1) + B(0, 1) + B(1) + G + C(256, 1) + T() + G + G
+EXAMPLE = FIRST + A(1, 0, '-', '-', 0) + T('-') + C(0) + C(1) + B(0, 1) + B(1) + G + C(256, 1) + T(1) + G + G
 EXAMPLE = EXAMPLE.replace('A\t0\t01\t0\t01', 'A\t0\t01\t0\t1')
 
 # A line that fits no record, below a refused addition: 3, then 10, and the lines below it are not played.
@@ -118,7 +119,7 @@ CASES = {
     # the second go they are the last.
     'replaced': (A(0, 1, modify=1) + go(C(1, far=True), C(1), H(0, 1, 0), MP(1, 0), H(1, 0, 1)), TOUCH),
     'replaced_body': (A(0, 1) + go(B(1, margin=ONE), B(1), M(0, 1), P(GAP)) + MARK + go(B(1, margin=ONE), M(0, 1), P(GAP)), '3\n' + TOUCH),
-    'replaced_settings': (A(0, 1) + T(ONE) + go(M(0, 1), P(GAP)) + MARK + go(M(0, 1), P(GAP), T(ONE)), '3\n' + TOUCH),
+    'replaced_settings': (A(0, 1) + T(tolerance=ONE) + go(M(0, 1), P(GAP)) + MARK + go(M(0, 1), P(GAP), T(tolerance=ONE)), '3\n' + TOUCH),
     'replaced_out_of_range': (T(match=2) + T() + G + go(C(0, 128), C(0)) + go(B(1, friction=(HALF, 6)), B(1)) + go(H(0, 1, 2), H(1, 0, 1)), '2\n' * 4),
     'passed_over_out_of_range': (A(0, 1) + go(MP(0, 1), H(5, 6, 2)) + go(MP(0, 1), MP(5, 256)) + go(MP(0, 1), H(300, 300, 1)), '2\n' * 3),
     # No, no, none for the pair, no.
@@ -182,10 +183,23 @@ CASES = {
     'last_feed_missing': (A(0, 1) + go(MP(0, 1))[:-1], '10\n'),
     'field_missing': (unreadable(replaced(MP(0, 1), '\t0\n', '\n')), '3\n10\n'),
     'settings_of_9_fields': (unreadable(T()[:-3] + '\n'), '3\n10\n'),
-    'settings_of_11_fields': (unreadable(T()[:-1] + '\t1\n'), '3\n10\n'),
+    'settings_of_12_fields': (unreadable(T(0, 0)), '3\n10\n'),
     'settings_tab_at_end': (unreadable(T()[:-1] + '\t\n'), '3\n10\n'),
-    'settings_dash_at_end': (unreadable(T()[:-1] + '\t-\n'), '3\n10\n'),
     'unreadable_passed_over': (unreadable(replaced(M(5, 6), ONE, '-')), '3\n10\n'),
+
+    # ---- The matching setting; by number and by place print the same.
+    # Missing, a dash, 0, 1, and both with zeros in front.
+    'matching': (A(0, 1) + go(MP(0, 1)) + go(settings=T('-')) + go(MP(0, 1), settings=T(0)) + go(settings=T(1)) + go(MP(0, 1), settings=T('00')) + go(settings=T('01')),
+                 (TOUCH + PART) * 3),
+    'matching_out_of_range': (A(0, 1) + T(2) + G + go(MP(0, 1), settings=T('007')) + go(MP(0, 1), settings=T(4294967295)) + go(MP(0, 1)), '2\n' * 3 + TOUCH),
+    'matching_replaced_out_of_range': (A(0, 1) + T(2) + go(MP(0, 1)) + go(MP(0, 1), T(0), settings=T(2)) + go(MP(0, 1)), '2\n' * 2 + TOUCH),
+    'matching_too_large': (unreadable(T(4294967296)), '3\n10\n'),
+    'matching_minus': (unreadable(T(-1)), '3\n10\n'),
+    'matching_two_dashes': (unreadable(T('-', '-')), '3\n10\n'),
+    'matching_tab_at_end': (unreadable(T(0)[:-1] + '\t\n'), '3\n10\n'),
+    'matching_dash_tab_at_end': (unreadable(T('-')[:-1] + '\t\n'), '3\n10\n'),
+    'matching_feed_missing': (MARK + T()[:-1], '3\n10\n'),
+    'matching_dash_feed_missing': (MARK + T('-')[:-1], '3\n10\n'),
 
     # ---- Length.
     'longest': (filled(MOST_BYTES), TOUCH + PART + '4\n'),

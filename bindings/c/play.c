@@ -3,7 +3,7 @@
  *
  * play.stdout was worked out by hand. The first G starts the contact of colliders 0 and 1, which the M names in the other order. The
  * pair stands when it is added once more: 4. Nothing is proposed for the second G: the contact ends. A collider of line 17 is out of
- * range: 2 at the next G. The last G has no T: 10.
+ * range: 2 at the next G. The last G has no T: 10. No T names the matching: a trace is then played by number.
  */
 #include <stdio.h>
 #include <stdlib.h>

@@ -53,6 +53,15 @@ enum sardinerod_combine_rule {
     SARDINEROD_COMBINE_MAX = 5
 };
 
+/*
+ * Whether a new point's features are compared with an old point's. Close anchors match by either: straight where a feature of the
+ * new point is 0, crossed always.
+ */
+enum sardinerod_matching {
+    SARDINEROD_MATCHING_BY_NUMBER = 0, /* features are compared, 0 as any other number */
+    SARDINEROD_MATCHING_BY_PLACE = 1   /* features are compared only where neither of the new point's is 0 */
+};
+
 /* The pair's marks, counted from SARDINEROD_CONTACT_FLAGS. */
 enum sardinerod_pair_flag {
     SARDINEROD_FLAG_TOUCHING = 0,
@@ -122,8 +131,12 @@ enum sardinerod_pair_flag {
 #define SARDINEROD_POINT_WARM_START_TANGENT_IMPULSE 14
 #define SARDINEROD_POINT_FEATURES                   16
 
-/* The settings. */
-#define SARDINEROD_SETTINGS_LENGTH                  10
+/*
+ * The settings. Behind the mark at SARDINEROD_SETTINGS_MATCHING stands an enum sardinerod_matching; where the mark is 0 that word is
+ * not read, and points match by place. A caller that counts on features of 0 being compared like any other must name
+ * SARDINEROD_MATCHING_BY_NUMBER.
+ */
+#define SARDINEROD_SETTINGS_LENGTH                  12
 #define SARDINEROD_SETTINGS_STEP_TIME               0
 #define SARDINEROD_SETTINGS_LENGTH_UNIT             1
 #define SARDINEROD_SETTINGS_CONTACT_TOLERANCE       2
@@ -132,6 +145,7 @@ enum sardinerod_pair_flag {
 #define SARDINEROD_SETTINGS_MATCH_CONTACTS          5
 #define SARDINEROD_SETTINGS_FRICTION                6
 #define SARDINEROD_SETTINGS_RESTITUTION             8
+#define SARDINEROD_SETTINGS_MATCHING                10
 
 /* A collider's record, which begins with its presence mark. */
 #define SARDINEROD_COLLIDER_SIZE                    23
@@ -195,7 +209,7 @@ enum sardinerod_pair_flag {
 #define SARDINEROD_PLAY_ANSWER_LENGTH               2
 #define SARDINEROD_PRINTED_SIZE                     136
 #define SARDINEROD_LENGTHS_LENGTH                   10
-#define SARDINEROD_LAYOUT_LENGTH                    98
+#define SARDINEROD_LAYOUT_LENGTH                    99
 
 /*
  * 0: the graph is empty, of that capacity; every other word of it is 0.
@@ -243,7 +257,8 @@ uint32_t sardinerod_prune(const uint32_t *normal, size_t normal_len, const uint3
  * Plays the line of the trace at the player's place. A player is five words: the place of the next line, where the lines since the
  * last G begin, then three marks, set where not 0: the line above is an M or P; a T stands since the last G; all numbers since the
  * last G are in range, those of A lines apart. A new player is 0, 0, 0, 0, 1, its graph laid out. From settings to shares the rows
- * are for work: what they hold is not read, and a G fills them. out has 136 bytes for each contact of the capacity.
+ * are for work: what they hold is not read, and a G fills them, the matching by number where its T does not name one. out has 136
+ * bytes for each contact of the capacity.
  * 0: answer is 1 if the trace had ended before, else 0, and how many bytes the line prints, from the start of out. Player, graph and
  *    a step's rows are those after the line. An unreadable line prints 10, and then the player is at the trace's end. At its end
  *    nothing changes but answer, which is 1, 0.

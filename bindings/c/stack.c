@@ -92,6 +92,7 @@ static uint32_t *point_of(uint32_t *manifold, uint32_t p) {
 
 static float aside_of(const struct frame *frame, uint32_t n) { return n == 2 ? frame->aside : 0.0f; }
 
+/* Points match by number. No corner's number is 0, so that by place would give the same. */
 static void write_settings(void) {
     put_float(settings + SARDINEROD_SETTINGS_STEP_TIME, 1.0f / 64);
     put_float(settings + SARDINEROD_SETTINGS_LENGTH_UNIT, 1.0f);
@@ -103,6 +104,8 @@ static void write_settings(void) {
     settings[SARDINEROD_SETTINGS_FRICTION + 1] = SARDINEROD_COMBINE_AVERAGE;
     put_float(settings + SARDINEROD_SETTINGS_RESTITUTION, 0.0f);
     settings[SARDINEROD_SETTINGS_RESTITUTION + 1] = SARDINEROD_COMBINE_AVERAGE;
+    settings[SARDINEROD_SETTINGS_MATCHING] = 1;
+    settings[SARDINEROD_SETTINGS_MATCHING + 1] = SARDINEROD_MATCHING_BY_NUMBER;
 }
 
 /* A collider whose box is 1/8 larger on each side; the floor is wider. */

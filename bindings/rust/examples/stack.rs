@@ -5,8 +5,8 @@ use std::error::Error;
 use std::io::{self, Write};
 
 use sardinerod::{
-    Addition, Body, Change, Collider, ContactGraph, ContactId, Event, PackedFeatureId, Pair, Point,
-    ProposedManifold, ProposedPoint, Refusal, Settings, Shares, World,
+    Addition, Body, Change, Collider, ContactGraph, ContactId, Event, Matching, PackedFeatureId,
+    Pair, Point, ProposedManifold, ProposedPoint, Refusal, Settings, Shares, World,
 };
 
 const CAPACITY: u32 = 4;
@@ -133,10 +133,12 @@ fn difference(a: [f32; 3], b: [f32; 3]) -> [f32; 3] {
     [a[0] - b[0], a[1] - b[1], a[2] - b[2]]
 }
 
+/// Points match by number. No corner's number is 0, so that by place would give the same.
 fn settings() -> Settings {
     Settings {
         contact_tolerance: 1.0 / 64.0,
         recycle_distance: 1.0 / 32.0,
+        matching: Some(Matching::ByNumber),
         ..Settings::default()
     }
 }

@@ -18,6 +18,7 @@ impl ContactId {
 pub struct PackedFeatureId(pub u32);
 
 impl PackedFeatureId {
-    /// A feature that is not known. It is a number like any other where features are compared.
+    /// A feature that is not known. [By number](crate::Matching::ByNumber) it is compared as any other; [by
+    /// place](crate::Matching::ByPlace) a new point that has it matches by its anchors alone.
     pub const UNKNOWN: Self = Self(0);
 }

@@ -96,7 +96,7 @@ layout! {
     /// Point: the two feature ids.
     POINT_FEATURES = 16;
     /// Words of the settings.
-    SETTINGS_LENGTH = 10;
+    SETTINGS_LENGTH = 12;
     /// Settings: the step time.
     SETTINGS_STEP_TIME = 0;
     /// Settings: the length unit.
@@ -113,6 +113,8 @@ layout! {
     SETTINGS_FRICTION = 6;
     /// Settings: the default restitution, a coefficient and a rule.
     SETTINGS_RESTITUTION = 8;
+    /// Settings: the matching, a mark and a [`Matching`](crate::Matching).
+    SETTINGS_MATCHING = 10;
     /// Words of a collider's record, which begins with its presence mark.
     COLLIDER_SIZE = 23;
     /// Collider: its body, a mark and a number.
@@ -208,5 +210,5 @@ layout! {
     /// Words of the answer of `lengths`.
     LENGTHS_LENGTH = 10;
     /// Words of the answer of `layout`: the names of this table.
-    LAYOUT_LENGTH = 98;
+    LAYOUT_LENGTH = 99;
 }

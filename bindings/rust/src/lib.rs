@@ -94,6 +94,6 @@ pub use shares::Shares;
 pub use trace::{Play, Trace};
 pub use views::{ContactRecyclingCache, Manifold, Pair, Point, PointMut};
 pub use world::{
-    Body, Coefficient, CoefficientCombine, Collider, ProposedManifold, ProposedPoint, Settings,
-    World,
+    Body, Coefficient, CoefficientCombine, Collider, Matching, ProposedManifold, ProposedPoint,
+    Settings, World,
 };

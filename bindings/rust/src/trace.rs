@@ -10,7 +10,8 @@ use crate::shares::Shares;
 use crate::words::count;
 use crate::world::World;
 
-/// A recorded load: lines of tab-parted fields, as docs/TRACES.md lists them. Any bytes can be played.
+/// A recorded load: lines of tab-parted fields, as docs/TRACES.md lists them. Any bytes can be played. A T that names no
+/// matching is played [by number](crate::Matching::ByNumber), where [`Settings`](crate::Settings) that name none are by place.
 ///
 /// ```
 /// use sardinerod::{ContactId, Trace};

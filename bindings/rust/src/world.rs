@@ -38,6 +38,32 @@ impl Coefficient {
     }
 }
 
+/// How the new points of a pair are matched with its old ones, whose warm start impulses they take over.
+///
+/// With `match_contacts`, and where a pair has at most 4 new manifolds, each is matched with all old manifolds of the pair, one after
+/// another; what a later one gives replaces what an earlier one gave. For a new point the points of an old manifold are tried in their order, and the first that matches gives its impulses.
+/// An old point matches in one of these ways:
+///
+/// | By | When |
+/// |---|---|
+/// | features straight | new 1 = old 1 and new 2 = old 2 |
+/// | features crossed | new 2 = old 1 and new 1 = old 2 |
+/// | anchors straight | a feature of the new point is 0, and new anchor 1 is close to old anchor 1, new anchor 2 to old anchor 2 |
+/// | anchors crossed | new anchor 1 is close to old anchor 2, new anchor 2 to old anchor 1, whatever the features |
+///
+/// Close: the squared distance is below the square of 0.1 length units. By number and by place differ in the features alone; the
+/// default is what a step takes that names neither.
+#[derive(Clone, Copy, Debug, Default, PartialEq, Eq, Hash)]
+#[repr(u32)]
+pub enum Matching {
+    /// 0: features are compared, 0 as any other number. So a new point of features 0 and 0 matches every old point of features 0
+    /// and 0, however far away.
+    ByNumber = 0,
+    /// 1: features are compared only if neither of the new point's two is 0. A new point that has a 0 matches by its anchors alone.
+    #[default]
+    ByPlace = 1,
+}
+
 /// The settings of a step.
 #[derive(Clone, Copy, Debug, PartialEq)]
 pub struct Settings {
@@ -57,11 +83,14 @@ pub struct Settings {
     pub default_friction: Coefficient,
     /// The restitution of a collider that has none.
     pub default_restitution: Coefficient,
+    /// Which points match, where `match_contacts` is set. `None` does not name it, and then points match by place: a caller that
+    /// counts on features of 0 being compared must name [`Matching::ByNumber`].
+    pub matching: Option<Matching>,
 }
 
 impl Default for Settings {
-    /// Step time 1/64, length unit 1, contact tolerance 0.005, recycle distance 0.05, squared cosine 0.99, matching, friction 0.5,
-    /// restitution 0, both averaged.
+    /// Step time 1/64, length unit 1, contact tolerance 0.005, recycle distance 0.05, squared cosine 0.99, friction 0.5, restitution
+    /// 0, both averaged. Contacts are matched, by place, since the matching is not named.
     fn default() -> Self {
         Settings {
             step_time: 1.0 / 64.0,
@@ -75,12 +104,14 @@ impl Default for Settings {
                 combine_rule: CoefficientCombine::Average,
             },
             default_restitution: Coefficient::default(),
+            matching: None,
         }
     }
 }
 
 impl Settings {
     fn write(&self, words: &mut [u32; SETTINGS_LENGTH]) {
+        words.fill(0);
         put_float(words, SETTINGS_STEP_TIME, self.step_time);
         put_float(words, SETTINGS_LENGTH_UNIT, self.length_unit);
         put_float(words, SETTINGS_CONTACT_TOLERANCE, self.contact_tolerance);
@@ -93,6 +124,7 @@ impl Settings {
             SETTINGS_RESTITUTION,
             &self.default_restitution.words(),
         );
+        put_optional(words, SETTINGS_MATCHING, self.matching.map(|m| [m as u32]));
     }
 }
 

@@ -6,7 +6,7 @@ mod support;
 use sardinerod::layout::*;
 use sardinerod::{
     Addition, Body, Change, Coefficient, CoefficientCombine, Collider, ContactEdge, ContactGraph,
-    ContactId, ContactRecyclingCache, Event, PackedFeatureId, Point, ProposedManifold,
+    ContactId, ContactRecyclingCache, Event, Matching, PackedFeatureId, Point, ProposedManifold,
     ProposedPoint, PrunePoint, Refusal, Settings, Shares, World, prune,
 };
 use support::*;
@@ -291,6 +291,156 @@ fn impulses_are_carried_over_by_features() {
         (0.0, 4.0)
     );
     assert_eq!(point.warm_start_tangent_impulse, [5.0, 6.0]);
+}
+
+/// A point with these features, its anchors on the x axis.
+fn point_on_x(features: [u32; 2], anchors: [f32; 2]) -> ProposedPoint {
+    let [feature_id1, feature_id2] = features.map(PackedFeatureId);
+    let [anchor1, anchor2] = anchors.map(|x| [x, 0.0, 0.0]);
+    ProposedPoint {
+        anchor1,
+        anchor2,
+        feature_id1,
+        feature_id2,
+        ..ProposedPoint::default()
+    }
+}
+
+/// A pair that touches at the old points, and a world that proposes the new ones and recycles nothing. Old point k has k + 1 and its
+/// tenfold and hundredfold as warm start impulses.
+fn matching_scene(old: &[ProposedPoint], new: &[ProposedPoint]) -> (ContactGraph, World) {
+    let (mut graph, mut world, contact) = touching();
+    stop_recycling(&mut world);
+    let propose = |points: &[ProposedPoint], world: &mut World| {
+        let proposed = ProposedManifold {
+            normal: [0.0, 1.0, 0.0],
+            points: points.to_vec(),
+        };
+        world.propose(contact, true, &[proposed]).unwrap();
+    };
+    propose(old, &mut world);
+    step(&mut graph, &world);
+    graph.for_each_point_mut(|_, _, p, mut point| {
+        let impulse = (p + 1) as f32;
+        point.set_warm_start_normal_impulse(impulse);
+        point.set_warm_start_tangent_impulse([10.0 * impulse, 100.0 * impulse]);
+    });
+    propose(new, &mut world);
+    (graph, world)
+}
+
+/// Writes the words of the matching: its mark, its value.
+fn name_matching(world: &mut World, words: [u32; 2]) {
+    world.settings_words_mut()[SETTINGS_MATCHING..].copy_from_slice(&words);
+}
+
+/// The graph after a step, and which old point's impulses each new point takes: its number from 1 on, 0 for none.
+fn matched(graph: &ContactGraph, world: &World) -> (ContactGraph, Vec<u32>) {
+    let mut graph = graph.clone();
+    assert_eq!(step(&mut graph, world).recycled, 0);
+    let pair = graph.pairs().next().unwrap();
+    let points = pair.manifolds().next().unwrap().points();
+    let taken = points.map(|point| {
+        let impulse = point.warm_start_normal_impulse;
+        let tangent = [10.0 * impulse, 100.0 * impulse];
+        assert_eq!(point.warm_start_tangent_impulse, tangent);
+        assert_eq!(point.normal_impulse, 0.0);
+        impulse as u32
+    });
+    let taken = taken.collect();
+    (graph, taken)
+}
+
+const NOT_NAMED: [u32; 2] = [0, 0];
+const BY_NUMBER: [u32; 2] = [1, Matching::ByNumber as u32];
+const BY_PLACE: [u32; 2] = [1, Matching::ByPlace as u32];
+
+/// Points without features, old at 1, 2 and 3, new 1/16 from 3, at 1, and 1/8 from 2: the last is further than the threshold, 0.1.
+fn unnamed_scene() -> (ContactGraph, World) {
+    let unnamed = |x: f32| point_on_x([0, 0], [x, x]);
+    let old = [1.0, 2.0, 3.0].map(unnamed);
+    let new = [3.0625, 1.0, 2.125].map(unnamed);
+    matching_scene(&old, &new)
+}
+
+/// By number each takes the first old point's impulses, by place those of the old point near it. Not named is by place.
+#[test]
+fn points_without_features_match_by_number_or_by_place() {
+    let (graph, mut world) = unnamed_scene();
+    name_matching(&mut world, BY_NUMBER);
+    assert_eq!(matched(&graph, &world).1, [1, 1, 1]);
+    name_matching(&mut world, BY_PLACE);
+    let by_place = matched(&graph, &world);
+    assert_eq!(by_place.1, [3, 1, 0]);
+    for word in [0, 1, 2, u32::MAX] {
+        name_matching(&mut world, [0, word]);
+        assert_eq!(matched(&graph, &world), by_place);
+    }
+}
+
+/// The same through the settings.
+#[test]
+fn settings_name_the_matching() {
+    let (graph, mut world) = unnamed_scene();
+    for (matching, taken) in [
+        (None, [3, 1, 0]),
+        (Some(Matching::ByNumber), [1, 1, 1]),
+        (Some(Matching::ByPlace), [3, 1, 0]),
+    ] {
+        let mut settings = Settings {
+            recycle_distance: 0.0,
+            matching,
+            ..Settings::default()
+        };
+        world.set_settings(&settings);
+        assert_eq!(matched(&graph, &world).1, taken);
+        // Without matching nothing is taken, whatever is named.
+        settings.match_contacts = false;
+        world.set_settings(&settings);
+        assert_eq!(matched(&graph, &world).1, [0, 0, 0]);
+    }
+}
+
+/// Whether the one new point takes the impulses of the one old point, whose anchors are 1 and 2: by number, and by place.
+#[test]
+fn features_and_anchors_match() {
+    let (straight, crossed, far) = ([1.0, 2.0], [2.0, 1.0], [5.0, 6.0]);
+    for (old, new, anchors, by_number, by_place) in [
+        // Two features that are unknown.
+        ([0, 0], [0, 0], far, 1, 0),
+        ([0, 0], [0, 0], straight, 1, 1),
+        ([0, 0], [0, 0], crossed, 1, 1),
+        ([5, 6], [0, 0], far, 0, 0),
+        ([5, 6], [0, 0], straight, 1, 1),
+        // One of them.
+        ([0, 6], [0, 6], far, 1, 0),
+        ([0, 6], [0, 6], straight, 1, 1),
+        ([6, 0], [0, 6], far, 1, 0),
+        ([6, 0], [6, 0], far, 1, 0),
+        ([0, 6], [6, 0], far, 1, 0),
+        ([5, 6], [0, 6], far, 0, 0),
+        ([5, 6], [0, 6], straight, 1, 1),
+        ([5, 6], [5, 0], straight, 1, 1),
+        // None of them: by number and by place are alike.
+        ([5, 6], [5, 6], far, 1, 1),
+        ([6, 5], [5, 6], far, 1, 1),
+        ([5, 7], [5, 6], far, 0, 0),
+        ([0, 0], [5, 6], far, 0, 0),
+        ([0, 0], [5, 6], straight, 0, 0),
+        ([0, 0], [5, 6], crossed, 1, 1),
+    ] {
+        let old = point_on_x(old, straight);
+        let new = point_on_x(new, anchors);
+        let (graph, mut world) = matching_scene(&[old], &[new]);
+        let mut taken = |words| {
+            name_matching(&mut world, words);
+            matched(&graph, &world).1
+        };
+        let case = format!("{old:?} and {new:?}");
+        assert_eq!(taken(BY_NUMBER), [by_number], "{case}");
+        assert_eq!(taken(BY_PLACE), [by_place], "{case}");
+        assert_eq!(taken(NOT_NAMED), [by_place], "{case}");
+    }
 }
 
 #[test]

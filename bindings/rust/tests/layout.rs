@@ -3,7 +3,7 @@
 mod texts;
 
 use sardinerod::layout::*;
-use sardinerod::{CoefficientCombine, Refusal, raw};
+use sardinerod::{CoefficientCombine, Matching, Refusal, raw};
 use texts::*;
 
 /// Names and values of `layout::TABLE`.
@@ -105,6 +105,20 @@ fn combining_rules_agree() {
     })
     .collect();
     assert_eq!(header_enum("sardinerod_combine_rule"), crate_own);
+}
+
+#[test]
+fn matchings_agree() {
+    let crate_own: Vec<(String, u32)> = [Matching::ByNumber, Matching::ByPlace]
+        .into_iter()
+        .map(|matching| {
+            (
+                format!("MATCHING_{}", screaming(&format!("{matching:?}"))),
+                matching as u32,
+            )
+        })
+        .collect();
+    assert_eq!(header_enum("sardinerod_matching"), crate_own);
 }
 
 #[test]

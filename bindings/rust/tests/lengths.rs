@@ -32,7 +32,7 @@ fn lengths_are_the_documented_ones() {
     // The figures that the document gives for capacities 4 and 256.
     assert_eq!(
         documented(4),
-        [10, 5888, 3328, 7016, 13, 2104, 8, 32, 20, 4]
+        [12, 5888, 3328, 7016, 13, 2104, 8, 32, 20, 4]
     );
     let largest = documented(256);
     assert_eq!((largest[3], largest[5]), (449_024, 134_404));
@@ -157,6 +157,21 @@ fn a_step_takes_no_other_length() {
                     "capacity {capacity}, row {k}, longer {longer}"
                 );
             }
+        }
+    }
+}
+
+/// Settings that end before the matching, 10 words, have the wrong length.
+#[test]
+fn settings_are_made_with_the_matching() {
+    assert_eq!((SETTINGS_MATCHING, SETTINGS_LENGTH), (10, 12));
+    for length in [0, 10, 11, 13, 24] {
+        for capacity in CAPACITIES {
+            let mut rows = Rows::new(capacity);
+            rows.given[0].resize(length, 0);
+            let before = rows.clone();
+            assert_eq!(rows.step(), 1);
+            assert!(rows == before, "capacity {capacity}, {length} words");
         }
     }
 }

@@ -20,6 +20,14 @@ fn trace() -> String {
 const SETTINGS_AT: u64 = ADDITION.len() as u64;
 const GO_AT: u64 = SETTINGS_AT + SETTINGS.len() as u64;
 
+/// A player at a trace's beginning.
+const NEW: [u64; PLAYER_LENGTH] = [0, 0, 0, 0, 1];
+
+/// The settings with that behind their ten fields.
+fn settings_and(rest: &str) -> String {
+    SETTINGS.replace('\n', rest) + "\n"
+}
+
 /// Everything that a call is lent but the trace.
 #[derive(Clone, Debug, PartialEq)]
 struct Lent {
@@ -74,6 +82,11 @@ impl Lent {
         )
     }
 
+    /// Plays so many lines.
+    fn play_lines(&mut self, trace: &str, count: usize) {
+        (0..count).for_each(|_| assert_eq!(self.play(trace), 0));
+    }
+
     /// Row `k` by one longer, or shorter.
     fn stretch(&mut self, k: usize, longer: bool) {
         match k {
@@ -115,7 +128,7 @@ fn at(place: usize) -> [u64; PLAYER_LENGTH] {
 #[test]
 fn a_line_takes_the_documented_lengths() {
     for capacity in CAPACITIES {
-        let mut lent = Lent::new(capacity, [0, 0, 0, 0, 1]);
+        let mut lent = Lent::new(capacity, NEW);
         for player in [[SETTINGS_AT, 0, 0, 0, 1], BEFORE_GO] {
             assert_eq!(lent.play(&trace()), 0);
             assert_eq!(
@@ -134,11 +147,12 @@ fn a_line_takes_the_documented_lengths() {
 
 #[test]
 fn a_go_fills_the_rows() {
-    let mut lent = Lent::new(4, [0, 0, 0, 0, 1]);
-    (0..3).for_each(|_| assert_eq!(lent.play(&trace()), 0));
+    let mut lent = Lent::new(4, NEW);
+    lent.play_lines(&trace(), 3);
     let [settings, colliders, bodies, proposals, shares] = &lent.given;
     assert_eq!(settings[SETTINGS_STEP_TIME], 0x3C80_0000);
     assert_eq!(settings[SETTINGS_RESTITUTION + 1], 1);
+    assert_eq!(settings[SETTINGS_MATCHING..], [1, 0]);
     assert!(colliders.iter().chain(bodies).all(|word| *word == 0));
     assert_eq!(proposals.iter().sum::<u32>(), 1);
     assert_eq!(proposals[PROPOSAL_HOOK], 1);
@@ -147,6 +161,100 @@ fn a_go_fills_the_rows() {
     assert!(events.iter().chain(changes).all(|word| *word == 7));
     assert_eq!(distances[..], [0; 4]);
     assert_eq!(lent.out, vec![7; lent.out.len()]);
+}
+
+/// The step is given a matching that is named: by number where the line has a dash for it, or ends before it.
+#[test]
+fn a_go_fills_the_matching() {
+    for (rest, words) in [
+        ("", [1, 0]),
+        ("\t-", [1, 0]),
+        ("\t0", [1, 0]),
+        ("\t000", [1, 0]),
+        ("\t1", [1, 1]),
+        ("\t01", [1, 1]),
+    ] {
+        let mut lent = Lent::new(4, NEW);
+        lent.play_lines(&[&settings_and(rest), GO].concat(), 2);
+        assert_eq!(lent.answer, [0, 0], "{rest:?}");
+        assert_eq!(lent.given[0][SETTINGS_MATCHING..], words, "{rest:?}");
+    }
+    // Of several settings the last count.
+    let mut lent = Lent::new(4, NEW);
+    lent.play_lines(&[&settings_and("\t1"), SETTINGS, GO].concat(), 3);
+    assert_eq!(lent.given[0][SETTINGS_MATCHING..], [1, 0]);
+}
+
+#[test]
+fn a_matching_out_of_range_fills_nothing() {
+    for rest in ["\t2", "\t4294967295"] {
+        let settings = settings_and(rest);
+        let text = [&settings, GO].concat();
+        let mut lent = Lent::new(4, NEW);
+        let before_go = [settings.len() as u64, 0, 0, 1, 0];
+        let after = lent.clone().printed(before_go, "");
+        assert_eq!(lent.play(&text), 0);
+        assert_eq!(lent, after);
+        let after = lent.clone().printed(at(text.len()), "2\n");
+        assert_eq!(lent.play(&text), 0);
+        assert_eq!(lent, after);
+    }
+}
+
+/// A step in which colliders 0 and 1 touch at points without features, their anchors at these places on x. Nothing is recycled.
+fn touch_at(rest: &str, places: &[f32]) -> String {
+    let (origin, corner) = (["00000000"; 3].join("\t"), ["3F800000"; 3].join("\t"));
+    let collider = |n: u32| format!("C\t{n}\t-\t{origin}\t{corner}\t{origin}\t1\t1\t-\t-\t-\t0\n");
+    let point = |x: &f32| {
+        let place = format!("{:08X}\t00000000\t00000000", x.to_bits());
+        format!("P\t{place}\t{place}\t{place}\t00000000\t0\t0\n")
+    };
+    let points: String = places.iter().map(point).collect();
+    let manifold = "M\t0\t1\t00000000\t3F800000\t00000000\n";
+    [
+        &settings_and(rest),
+        &collider(0),
+        &collider(1),
+        manifold,
+        &points,
+        GO,
+    ]
+    .concat()
+}
+
+/// The stored points' normal impulses for warm starting.
+fn warm_starts(graph: &[u32]) -> Vec<f32> {
+    let graph = ContactGraph::from_words(graph.to_vec()).unwrap();
+    let manifolds = graph.pairs().flat_map(|pair| pair.manifolds());
+    let points = manifolds.flat_map(|manifold| manifold.points());
+    points
+        .map(|point| point.warm_start_normal_impulse)
+        .collect()
+}
+
+/// Points at 1 and 2 get the impulses 10 and 20. What does a point at 2 take in the next step, with such settings?
+fn taken(rest: &str) -> Vec<f32> {
+    let first = ADDITION.to_owned() + &touch_at(rest, &[1.0, 2.0]);
+    let second = touch_at(rest, &[2.0]);
+    let text = first.clone() + &second;
+    let mut lent = Lent::new(4, NEW);
+    lent.play_lines(&text, first.lines().count());
+    let mut graph = ContactGraph::from_words(lent.graph).unwrap();
+    graph.for_each_point_mut(|_, _, p, mut point| {
+        point.set_warm_start_normal_impulse([10.0, 20.0][p]);
+    });
+    lent.graph = graph.into_words();
+    lent.play_lines(&text, second.lines().count());
+    warm_starts(&lent.graph)
+}
+
+/// By number the new point takes the first old point's, by place those of the one where it is.
+#[test]
+fn a_trace_is_played_by_number_unless_it_names_by_place() {
+    for rest in ["", "\t-", "\t0"] {
+        assert_eq!(taken(rest), [10.0], "{rest:?}");
+    }
+    assert_eq!(taken("\t1"), [20.0]);
 }
 
 #[test]
@@ -170,9 +278,22 @@ fn a_line_takes_no_other_length() {
 fn a_line_takes_no_proposals_for_32_points() {
     let manifold = PROPOSED_MANIFOLD_POINTS + 32 * PROPOSED_POINT_SIZE;
     for capacity in CAPACITIES {
-        let mut lent = Lent::new(capacity, [0, 0, 0, 0, 1]);
+        let mut lent = Lent::new(capacity, NEW);
         let proposal = PROPOSAL_MANIFOLDS + MANIFOLDS * manifold;
         lent.given[3].resize(proposal * capacity as usize, 7);
+        let before = lent.clone();
+        assert_eq!(lent.play(&trace()), 1);
+        assert_eq!(lent, before);
+    }
+}
+
+/// Settings that end before the matching.
+#[test]
+fn a_line_takes_no_settings_of_10_words() {
+    for capacity in CAPACITIES {
+        let mut lent = Lent::new(capacity, NEW);
+        lent.given[0].truncate(SETTINGS_MATCHING);
+        assert_eq!(lent.given[0].len(), 10);
         let before = lent.clone();
         assert_eq!(lent.play(&trace()), 1);
         assert_eq!(lent, before);

@@ -3,8 +3,8 @@
 use sardinerod::layout::*;
 use sardinerod::{
     Body, Coefficient, CoefficientCombine, Collider, ContactGraph, ContactId,
-    ContactRecyclingCache, PackedFeatureId, Pair, Point, ProposedManifold, ProposedPoint, Settings,
-    World,
+    ContactRecyclingCache, Matching, PackedFeatureId, Pair, Point, ProposedManifold, ProposedPoint,
+    Settings, World,
 };
 
 /// The whole numbers from one on.
@@ -35,10 +35,32 @@ fn settings() {
         match_contacts: true,
         default_friction: coefficient(6.0, CoefficientCombine::Min),
         default_restitution: coefficient(7.0, CoefficientCombine::GeometricMean),
+        matching: Some(Matching::ByPlace),
     });
     let mut words = bits([1.0, 2.0, 3.0, 4.0, 5.0]);
-    words.extend([1, 6f32.to_bits(), 3, 7f32.to_bits(), 2]);
+    words.extend([1, 6f32.to_bits(), 3, 7f32.to_bits(), 2, 1, 1]);
     assert_eq!(world.settings_words(), words);
+}
+
+/// A mark and the matching; zeros where it is not named, after one that was named too.
+#[test]
+fn a_matching() {
+    assert_eq!(Matching::default(), Matching::ByPlace);
+    assert_eq!(Settings::default().matching, None);
+    let mut world = World::new(1).unwrap();
+    assert_eq!(world.settings_words()[10..], [0, 0]);
+    for (matching, words) in [
+        (Some(Matching::ByPlace), [1, 1]),
+        (None, [0, 0]),
+        (Some(Matching::ByNumber), [1, 0]),
+        (Some(Matching::ByPlace), [1, 1]),
+    ] {
+        world.set_settings(&Settings {
+            matching,
+            ..Settings::default()
+        });
+        assert_eq!(world.settings_words()[10..], words);
+    }
 }
 
 #[test]

@@ -135,6 +135,22 @@ fn refusal_2_settings_colliders_and_bodies() {
     );
 }
 
+/// The mark is tested, and behind a 1 the matching; behind a 0 it is not.
+#[test]
+fn refusal_2_matching() {
+    let name = |world: &mut World, words: [u32; 2]| {
+        world.settings_words_mut()[SETTINGS_MATCHING..].copy_from_slice(&words);
+    };
+    for words in [[2, 0], [2, 1], [u32::MAX, 0], [1, 2], [1, u32::MAX]] {
+        step_refused(|world, _| name(world, words), Refusal::OutOfRange);
+    }
+    for words in [[0, 0], [0, 1], [0, 2], [0, u32::MAX], [1, 0], [1, 1]] {
+        let (mut graph, mut world, _) = touching();
+        name(&mut world, words);
+        step(&mut graph, &world);
+    }
+}
+
 #[test]
 fn refusal_2_setters() {
     let mut world = World::new(CAPACITY).unwrap();

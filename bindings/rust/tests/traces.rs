@@ -55,6 +55,16 @@ fn touch() -> String {
     world() + &manifold(1, 0, 1) + GO
 }
 
+/// The settings with that behind their ten fields.
+fn settings_and(rest: &str) -> String {
+    SETTINGS.replace('\n', rest) + "\n"
+}
+
+/// `touch` with such settings.
+fn touch_and(rest: &str) -> String {
+    touch().replace(SETTINGS, &settings_and(rest))
+}
+
 const STARTED: &str = "E\t0\t0\t0\t1\t0\t1\nS\t0\t0\t-\t-\t-\n";
 const ENDED: &str = "E\t1\t0\t0\t1\t0\t1\nS\t1\t0\t0\t1\t-\n";
 
@@ -137,6 +147,44 @@ fn too_large_a_proposal_is_answered_at_the_go() {
     }
     prints(&(manifold(0, 1, PROPOSED_POINTS) + &touch()), STARTED);
     prints(&(manifold(0, 2, PROPOSED_POINTS + 1) + &touch()), STARTED);
+}
+
+/// The matching, an eleventh field, is a mark or a dash, or missing. It shows in impulses alone, which no line prints.
+#[test]
+fn settings_may_name_the_matching() {
+    for rest in ["", "\t-", "\t0", "\t1", "\t000", "\t0000000001"] {
+        prints(&touch_and(rest), STARTED);
+        prints(&(touch_and(rest) + &touch_and(rest)), STARTED);
+    }
+    for rest in ["\t2", "\t007", "\t4294967295"] {
+        prints(&settings_and(rest), "");
+        prints(&(touch_and(rest) + &touch()), &("2\n".to_owned() + STARTED));
+        prints(&(settings_and(rest) + &touch()), "2\n");
+    }
+}
+
+#[test]
+fn settings_have_no_other_fields() {
+    let eleventh = [
+        "\t", "\t ", "\t--", "\t-1", "\t+1", "\t1 ", "\t1\r", "\t0x1", "\tx",
+    ];
+    let twelfth = [
+        "\t\t", "\t\t1", "\t-\t", "\t1\t", "\t-\t-", "\t0\t0", "\t1\t1",
+    ];
+    let number = "\t4294967296";
+    for rest in eleventh
+        .into_iter()
+        .chain(twelfth)
+        .chain([number, " ", "-", "\r"])
+    {
+        prints(&touch_and(rest), "10\n");
+        prints(
+            &(touch() + &settings_and(rest)),
+            &(STARTED.to_owned() + "10\n"),
+        );
+    }
+    let nine = touch().replace(SETTINGS, &SETTINGS.replace("\t1\n", "\n"));
+    prints(&nine, "10\n");
 }
 
 #[test]

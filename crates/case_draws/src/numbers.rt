@@ -28,6 +28,10 @@ pub const SETTINGS_FRICTION: u32 = layout::settings::SETTINGS_FRICTION as u32;
 
 pub const SETTINGS_RESTITUTION: u32 = layout::settings::SETTINGS_RESTITUTION as u32;
 
+pub const SETTINGS_MATCHING: u32 = layout::settings::SETTINGS_MATCHING as u32;
+
+pub const SETTINGS_MATCHING_VALUE: u32 = SETTINGS_MATCHING + 1;
+
 pub const SETTINGS_LENGTH: u32 = layout::settings::SETTINGS_LENGTH as u32;
 
 // ---- A collider.

@@ -8,6 +8,8 @@ use crate::numbers::SETTINGS_CONTACT_TOLERANCE;
 use crate::numbers::SETTINGS_FRICTION;
 use crate::numbers::SETTINGS_LENGTH_UNIT;
 use crate::numbers::SETTINGS_MATCH_CONTACTS;
+use crate::numbers::SETTINGS_MATCHING;
+use crate::numbers::SETTINGS_MATCHING_VALUE;
 use crate::numbers::SETTINGS_RECYCLE_COSINE;
 use crate::numbers::SETTINGS_RECYCLE_DISTANCE;
 use crate::numbers::SETTINGS_RESTITUTION;
@@ -141,6 +143,7 @@ pub fn rule(owner: u32, slot: u32) -> u32 {
     1 + draw(owner, slot) % 5
 }
 
+// Matching is named by number: the Rust's.
 pub fn setting_word(case: u32, i: u32) -> u32 {
     let owner = draw(case, 30);
     let d = draw(owner, i);
@@ -152,6 +155,8 @@ pub fn setting_word(case: u32, i: u32) -> u32 {
         SETTINGS_RECYCLE_COSINE => COSINES[(d % 16) as usize],
         SETTINGS_MATCH_CONTACTS => all_but_one_in(owner, i, 4),
         SETTINGS_FRICTION | SETTINGS_RESTITUTION => coefficient(owner, i),
+        SETTINGS_MATCHING => 1,
+        SETTINGS_MATCHING_VALUE => 0,
         _ => rule(owner, i),
     }
 }

@@ -5,4 +5,5 @@ pub mod Boxes
 pub mod TestLaws
 pub mod RangeStepLaws
 pub mod LoadedLaws
+pub mod SettingLaws
 pub mod RuleLaws

@@ -1,7 +1,7 @@
 -- A record that is loaded field by field: what each call gives, put together. Assumes nothing.
 use mathlib.Core.Path.{_≡_}
 use Prim.Native.Nat.{ℕ, _+_}
-use mathlib.Core.Bool.{Bool}
+use mathlib.Core.Bool.{Bool, true}
 use mathlib.Core.List.{List}
 use lib.Ieee.{Float}
 use Rattle.math.specs.declared.pose.Pose.{Pose}
@@ -9,23 +9,24 @@ use Rattle.math.specs.declared.vec.Vec3.{Vec3}
 use Rattle.words.specs.Words.{wordAt, floatAt, vec3At}
 use Rattle.layout.specs.Body.{bodyAngularVelocity, bodyCenterOfMass, bodyFriction, bodyLinearVelocity, bodyMargin, bodyPosition, bodySpeculativeMaximum, bodyStatic, bodySweepRadius}
 use Rattle.layout.specs.Collider.{colliderBody, colliderFilters, colliderFriction, colliderLower, colliderMargin, colliderMemberships, colliderPosition, colliderRestitution, colliderSensor, colliderUpper}
-use Rattle.layout.specs.Settings.{settingsFriction, settingsMatchContacts, settingsRestitution}
-use Rattle.collider.specs.Recorded.{markAt, numberIfAt, floatIfAt, coefficientAt, coefficientIfAt, settingsOf, poseAt, presentCollider, presentBody}
+use Rattle.layout.specs.Settings.{settingsFriction, settingsMatchContacts, settingsMatching, settingsRestitution}
+use Rattle.collider.specs.Recorded.{markAt, markOr, numberIfAt, floatIfAt, coefficientAt, coefficientIfAt, settingsOf, poseAt, presentCollider, presentBody}
 use Rattle.collider.specs.Views.{plainCoefficient, plainCoefficientIf, plainFloatIf, plainNumberIf, plainSettings, plainCollider, plainBody}
 use Rattle.collider.specs.declared.optional.Coefficient.{Coefficient}
 use Rattle.collider.specs.declared.optional.OptionalCoefficient.{OptionalCoefficient}
 use Rattle.collider.specs.declared.optional.OptionalFloat.{OptionalFloat}
 use Rattle.collider.specs.declared.optional.OptionalBody.{OptionalBody}
 
-pub settings-loaded : (xs : List ℕ) {time unit tolerance distance cosine : Float} {matching : Bool} {friction restitution : Coefficient}
+pub settings-loaded : (xs : List ℕ) {time unit tolerance distance cosine : Float} {matching place : Bool} {friction restitution : Coefficient}
     → time ≡ floatAt xs 0 → unit ≡ floatAt xs 1 → tolerance ≡ floatAt xs 2 → distance ≡ floatAt xs 3 → cosine ≡ floatAt xs 4
     → matching ≡ markAt xs settingsMatchContacts
     → plainCoefficient friction ≡ coefficientAt xs settingsFriction
     → plainCoefficient restitution ≡ coefficientAt xs settingsRestitution
-    → plainSettings (record { «step_time» = time; «length_unit» = unit; «contact_tolerance» = tolerance; «recycle_distance» = distance; «recycle_cosine» = cosine; «match_contacts» = matching; «default_friction» = friction; «default_restitution» = restitution }) ≡ settingsOf xs
+    → place ≡ markOr true xs settingsMatching
+    → plainSettings (record { «step_time» = time; «length_unit» = unit; «contact_tolerance» = tolerance; «recycle_distance» = distance; «recycle_cosine» = cosine; «match_contacts» = matching; «default_friction» = friction; «default_restitution» = restitution; «by_place» = place }) ≡ settingsOf xs
 unfolding settingsOf
-settings-loaded xs a b c d e f g h =
-    λ i. record { stepTime = a i; lengthUnit = b i; contactTolerance = c i; recycleDistance = d i; recycleCosine = e i; matchContacts = f i; defaultFriction = g i; defaultRestitution = h i }
+settings-loaded xs a b c d e f g h j =
+    λ i. record { stepTime = a i; lengthUnit = b i; contactTolerance = c i; recycleDistance = d i; recycleCosine = e i; matchContacts = f i; defaultFriction = g i; defaultRestitution = h i; byPlace = j i }
 
 module _ (xs : List ℕ) (at : ℕ) where
   pub collider-loaded : (body : OptionalBody) {lower upper position : Vec3} {memberships filters : ℕ} (friction restitution : OptionalCoefficient) (margin : OptionalFloat) {sensor : Bool}

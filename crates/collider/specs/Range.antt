@@ -9,7 +9,7 @@ use Rattle.rules.specs.Numbers.{every}
 use Rattle.words.specs.Words.{wordAt}
 use Rattle.layout.specs.Body.{bodyFriction, bodyMargin, bodySize, bodySpeculativeMaximum, bodyStatic}
 use Rattle.layout.specs.Collider.{colliderBody, colliderFriction, colliderMargin, colliderRestitution, colliderSensor, colliderSize}
-use Rattle.layout.specs.Settings.{settingsFriction, settingsMatchContacts, settingsRestitution}
+use Rattle.layout.specs.Settings.{settingsFriction, settingsMatchContacts, settingsMatching, settingsRestitution}
 
 -- a mark is 0 or 1
 abbrev pub isMark : ℕ → Bool
@@ -27,8 +27,14 @@ whereSet mark asked = isMark mark && cond (eqb mark 1) asked true
 abbrev pub coefficientFits : List ℕ → ℕ → Bool
 coefficientFits xs at = whereSet (wordAt xs at) (isRule (wordAt xs (at + 2)))
 
+-- presence mark, mark
+abbrev pub settingFits : List ℕ → ℕ → Bool
+settingFits xs at = whereSet (wordAt xs at) (isMark (wordAt xs (at + 1)))
+
 unfoldable pub settingsFit : List ℕ → Bool
-settingsFit xs = isMark (wordAt xs settingsMatchContacts) && (isRule (wordAt xs (settingsFriction + 1)) && isRule (wordAt xs (settingsRestitution + 1)))
+settingsFit xs =
+    isMark (wordAt xs settingsMatchContacts)
+    && (isRule (wordAt xs (settingsFriction + 1)) && (isRule (wordAt xs (settingsRestitution + 1)) && settingFits xs settingsMatching))
 
 -- mark, number
 unfoldable pub bodyNumberFits : List ℕ → ℕ → Bool

@@ -1,6 +1,6 @@
 -- What the words of settings, colliders and bodies record, as the plain values of `rules`. Definitions only.
 use Prim.Native.Nat.{ℕ, _+_, _*_}
-use mathlib.Core.Bool.{Bool, cond}
+use mathlib.Core.Bool.{Bool, true, cond}
 use mathlib.Core.List.{List}
 use mathlib.Core.Option.{Option, none, some}
 use lib.Dec.{eqb}
@@ -10,11 +10,15 @@ use Rattle.rules.specs.Inputs.{Coefficient, Settings, Collider, Body}
 use Rattle.words.specs.Words.{wordAt, floatAt, vec3At, quatAt}
 use Rattle.layout.specs.Body.{bodyAngularVelocity, bodyCenterOfMass, bodyFriction, bodyLinearVelocity, bodyMargin, bodyPosition, bodySize, bodySpeculativeMaximum, bodyStatic, bodySweepRadius}
 use Rattle.layout.specs.Collider.{colliderBody, colliderFilters, colliderFriction, colliderLower, colliderMargin, colliderMemberships, colliderPosition, colliderRestitution, colliderSensor, colliderSize, colliderUpper}
-use Rattle.layout.specs.Settings.{settingsContactTolerance, settingsFriction, settingsLengthUnit, settingsMatchContacts, settingsRecycleCosine, settingsRecycleDistance, settingsRestitution, settingsStepTime}
+use Rattle.layout.specs.Settings.{settingsContactTolerance, settingsFriction, settingsLengthUnit, settingsMatchContacts, settingsMatching, settingsRecycleCosine, settingsRecycleDistance, settingsRestitution, settingsStepTime}
 
 -- a mark is read as set where it is 1
 abbrev pub markAt : List ℕ → ℕ → Bool
 markAt xs at = eqb (wordAt xs at) 1
+
+-- a setting: a presence mark and a mark; where it is not named, what is said for it
+unfoldable pub markOr : Bool → List ℕ → ℕ → Bool
+markOr unnamed xs at = cond (markAt xs at) (markAt xs (at + 1)) unnamed
 
 -- a mark and a number, a float, or a coefficient with its rule
 unfoldable pub numberIfAt : List ℕ → ℕ → Option ℕ
@@ -29,6 +33,7 @@ coefficientAt xs at = record { value = floatAt xs at; rule = wordAt xs (at + 1) 
 unfoldable pub coefficientIfAt : List ℕ → ℕ → Option Coefficient
 coefficientIfAt xs at = cond (markAt xs at) (some (coefficientAt xs (at + 1))) none
 
+-- not named, matching is by place
 unfoldable pub settingsOf : List ℕ → Settings
 settingsOf xs =
     record {
@@ -40,6 +45,7 @@ settingsOf xs =
       matchContacts = markAt xs settingsMatchContacts;
       defaultFriction = coefficientAt xs settingsFriction;
       defaultRestitution = coefficientAt xs settingsRestitution;
+      byPlace = markOr true xs settingsMatching;
     }
 
 -- the record at a place, whose presence mark is set

@@ -46,6 +46,7 @@ plainSettings s =
       matchContacts = s .«match_contacts»;
       defaultFriction = plainCoefficient (s .«default_friction»);
       defaultRestitution = plainCoefficient (s .«default_restitution»);
+      byPlace = s .«by_place»;
     }
 
 abbrev pub plainCollider : ColliderRecord → rules.Collider

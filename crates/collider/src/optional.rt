@@ -2,7 +2,7 @@
 ghost use mathlib.Core.Path.{_≡_};
 ghost use Prim.Native.Nat.{_+_, _≤_, _<_};
 ghost use lib.ListN.{length};
-ghost use Rattle.collider.specs.Recorded.{markAt, numberIfAt, floatIfAt, coefficientAt, coefficientIfAt};
+ghost use Rattle.collider.specs.Recorded.{markAt, markOr, numberIfAt, floatIfAt, coefficientAt, coefficientIfAt};
 ghost use Rattle.collider.specs.Views.{plainCoefficient, plainNumberIf, plainFloatIf, plainCoefficientIf};
 use words::row::load_float;
 use words::row::load_word;
@@ -34,6 +34,17 @@ pub fn load_mark(words: &[u32], at: usize) -> bool
     ensures { λ r. ⌜ r ≡ markAt (now (words .entry)) at ⌝ }
 {
     words[at] == 1
+}
+
+// A setting: a mark behind its presence mark; where that is 0, what is said for a setting that is not named.
+pub fn load_mark_or(words: &[u32], at: usize, unnamed: bool) -> bool
+    requires { ⌜ at + 2 ≤ length (now words) ⌝ }
+    ensures { λ r. ⌜ r ≡ markOr unnamed (now (words .entry)) at ⌝ }
+{
+    if load_mark(words, at) {
+        return load_mark(words, at + 1);
+    }
+    unnamed
 }
 
 pub fn load_coefficient(words: &[u32], at: usize) -> Coefficient

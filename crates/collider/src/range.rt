@@ -7,7 +7,7 @@ ghost use Rattle.words.specs.Words.{wordAt};
 ghost use Rattle.layout.specs.Body.{bodiesLength, bodySize};
 ghost use Rattle.layout.specs.Collider.{colliderSize, collidersLength};
 ghost use Rattle.layout.specs.Settings.{settingsLength};
-ghost use Rattle.collider.specs.Range.{isMark, isRule, whereSet, coefficientFits, settingsFit, colliderFits, collidersFit, bodyFits, bodiesFit, bodyNumberFits, colliderValuesFit, bodyValuesFit};
+ghost use Rattle.collider.specs.Range.{isMark, isRule, whereSet, coefficientFits, settingFits, settingsFit, colliderFits, collidersFit, bodyFits, bodiesFit, bodyNumberFits, colliderValuesFit, bodyValuesFit};
 use layout::body::BODY_FRICTION;
 use layout::body::BODY_MARGIN;
 use layout::body::BODY_SIZE;
@@ -23,6 +23,7 @@ use layout::limits::BODIES;
 use layout::limits::COLLIDERS;
 use layout::settings::SETTINGS_FRICTION;
 use layout::settings::SETTINGS_MATCH_CONTACTS;
+use layout::settings::SETTINGS_MATCHING;
 use layout::settings::SETTINGS_RESTITUTION;
 
 fn mark_fits(words: &[u32], at: usize) -> bool
@@ -67,12 +68,23 @@ fn coefficient_fits(words: &[u32], at: usize) -> bool
     where_set(mark, rule_fits(words, at + 2))
 }
 
+// A setting: a mark behind its presence mark.
+fn setting_fits(words: &[u32], at: usize) -> bool
+    requires { ⌜ at + 2 ≤ length (now words) ⌝ }
+    ensures { λ r. ⌜ r ≡ settingFits (now (words .entry)) at ⌝ }
+{
+    let mark = words[at];
+    where_set(mark, mark_fits(words, at + 1))
+}
+
 pub fn settings_fit(words: &[u32]) -> bool
     requires { ⌜ length (now words) ≡ settingsLength ⌝ }
     ensures { λ r. ⌜ r ≡ settingsFit (now (words .entry)) ⌝ }
 {
     mark_fits(words, SETTINGS_MATCH_CONTACTS)
-        && (rule_fits(words, SETTINGS_FRICTION + 1) && rule_fits(words, SETTINGS_RESTITUTION + 1))
+        && (rule_fits(words, SETTINGS_FRICTION + 1)
+            && (rule_fits(words, SETTINGS_RESTITUTION + 1)
+                && setting_fits(words, SETTINGS_MATCHING)))
 }
 
 fn collider_values_fit(words: &[u32], at: usize) -> bool

@@ -7,10 +7,12 @@ ghost use Rattle.collider.specs.Views.{plainSettings};
 use crate::optional::Coefficient;
 use crate::optional::load_coefficient;
 use crate::optional::load_mark;
+use crate::optional::load_mark_or;
 use layout::settings::SETTINGS_CONTACT_TOLERANCE;
 use layout::settings::SETTINGS_FRICTION;
 use layout::settings::SETTINGS_LENGTH_UNIT;
 use layout::settings::SETTINGS_MATCH_CONTACTS;
+use layout::settings::SETTINGS_MATCHING;
 use layout::settings::SETTINGS_RECYCLE_COSINE;
 use layout::settings::SETTINGS_RECYCLE_DISTANCE;
 use layout::settings::SETTINGS_RESTITUTION;
@@ -27,8 +29,11 @@ pub struct Settings {
     pub match_contacts: bool,
     pub default_friction: Coefficient,
     pub default_restitution: Coefficient,
+    // The matching setting: by place, else by number.
+    pub by_place: bool,
 }
 
+// Not named, matching is by place.
 pub fn load_settings(words: &[u32]) -> Settings
     requires { ⌜ length (now words) ≡ settingsLength ⌝ }
     ensures { λ r. ⌜ plainSettings r ≡ settingsOf (now (words .entry)) ⌝ }
@@ -42,5 +47,6 @@ pub fn load_settings(words: &[u32]) -> Settings
         match_contacts: load_mark(words, SETTINGS_MATCH_CONTACTS),
         default_friction: load_coefficient(words, SETTINGS_FRICTION),
         default_restitution: load_coefficient(words, SETTINGS_RESTITUTION),
+        by_place: load_mark_or(words, SETTINGS_MATCHING, true),
     }
 }

@@ -14,7 +14,7 @@ use Rattle.layout.specs.Point.{pointAnchor1, pointAnchor2, pointBasePenetration
 use Rattle.layout.specs.Proposal.{proposalCount, proposalHook, proposalManifolds, proposalSize, proposedManifoldNormal, proposedManifoldPoints, proposedManifoldSize, proposedPointFeatures, proposedPointPenetration, proposedPointSize}
 use Rattle.layout.specs.Prune.{prunePointsLength}
 use Rattle.layout.specs.Request.{requestLength}
-use Rattle.layout.specs.Settings.{settingsContactTolerance, settingsFriction, settingsLength, settingsLengthUnit, settingsMatchContacts, settingsRecycleCosine, settingsRecycleDistance, settingsRestitution, settingsStepTime}
+use Rattle.layout.specs.Settings.{settingsContactTolerance, settingsFriction, settingsLength, settingsLengthUnit, settingsMatchContacts, settingsMatching, settingsRecycleCosine, settingsRecycleDistance, settingsRestitution, settingsStepTime}
 use Rattle.layout.specs.Shares.{sharesCounts, sharesEntries, sharesLength}
 use Rattle.rules.specs.Limits.{bodies, colliders, mostContacts, mostWorkers, pairManifolds, proposedPoints, storedPoints}
 use Rattle.update_pass.specs.Shared.{bitsLength}
@@ -46,7 +46,7 @@ abbrev pub playAnswerLength : ℕ
 playAnswerLength = 2
 
 abbrev pub layoutLength : ℕ
-layoutLength = 98
+layoutLength = 99
 
 -- ---- settings, colliders, bodies, proposals, shares, graph, bit words, events, changes, distances
 unfoldable pub lengthsWords : ℕ → List ℕ
@@ -77,10 +77,10 @@ abbrev pub pointPlaces : List ℕ
 pointPlaces =
     pointAnchor1 ∷ pointAnchor2 ∷ pointPosition ∷ pointPenetration ∷ pointBasePenetration ∷ pointNormalImpulse ∷ pointNormalSpeed ∷ pointWarmStartNormalImpulse ∷ pointWarmStartTangentImpulse ∷ pointFeatures ∷ []
 
--- length; step time, length unit, contact tolerance, recycle distance, squared cosine, match, default friction and restitution
+-- length; step time, length unit, contact tolerance, recycle distance, squared cosine, match, default friction and restitution, matching
 abbrev pub settingPlaces : List ℕ
 settingPlaces =
-    settingsLength ∷ settingsStepTime ∷ settingsLengthUnit ∷ settingsContactTolerance ∷ settingsRecycleDistance ∷ settingsRecycleCosine ∷ settingsMatchContacts ∷ settingsFriction ∷ settingsRestitution ∷ []
+    settingsLength ∷ settingsStepTime ∷ settingsLengthUnit ∷ settingsContactTolerance ∷ settingsRecycleDistance ∷ settingsRecycleCosine ∷ settingsMatchContacts ∷ settingsFriction ∷ settingsRestitution ∷ settingsMatching ∷ []
 
 abbrev pub colliderPlaces : List ℕ
 colliderPlaces =

@@ -97,6 +97,7 @@ use layout::settings::SETTINGS_FRICTION;
 use layout::settings::SETTINGS_LENGTH;
 use layout::settings::SETTINGS_LENGTH_UNIT;
 use layout::settings::SETTINGS_MATCH_CONTACTS;
+use layout::settings::SETTINGS_MATCHING;
 use layout::settings::SETTINGS_RECYCLE_COSINE;
 use layout::settings::SETTINGS_RECYCLE_DISTANCE;
 use layout::settings::SETTINGS_RESTITUTION;
@@ -108,7 +109,7 @@ use words::row::store_words;
 
 pub const LENGTHS_LENGTH: usize = 10;
 
-pub const LAYOUT_LENGTH: usize = 98;
+pub const LAYOUT_LENGTH: usize = 99;
 
 // As docs/BUFFERS.md names them.
 const LAYOUT: [u32; LAYOUT_LENGTH] = [
@@ -162,6 +163,7 @@ const LAYOUT: [u32; LAYOUT_LENGTH] = [
     SETTINGS_MATCH_CONTACTS as u32,
     SETTINGS_FRICTION as u32,
     SETTINGS_RESTITUTION as u32,
+    SETTINGS_MATCHING as u32,
     COLLIDER_SIZE as u32,
     COLLIDER_BODY as u32,
     COLLIDER_LOWER as u32,

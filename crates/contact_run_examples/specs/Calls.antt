@@ -54,9 +54,9 @@ threeBodies at = bodyWords 0 ++ bodyWords at ++ bodyWords 0
 abbrev pub bodies : ℕ → List ℕ
 bodies at = threeBodies at ++ zeros (bodiesLength - 3 * bodySize)
 
--- matching on, with that recycle distance
+-- matching on, by number, with that recycle distance
 unfoldable pub settings : ℕ → List ℕ
-settings recycle = 0x3c88_8889 ∷ one ∷ 0x3ba3_d70a ∷ recycle ∷ 0x3f7a_e148 ∷ 1 ∷ 0x3f00_0000 ∷ 1 ∷ 0 ∷ 1 ∷ []
+settings recycle = 0x3c88_8889 ∷ one ∷ 0x3ba3_d70a ∷ recycle ∷ 0x3f7a_e148 ∷ 1 ∷ 0x3f00_0000 ∷ 1 ∷ 0 ∷ 1 ∷ 1 ∷ 0 ∷ []
 
 -- a manifold of one point, 0.1 deep, at that place of the axis x and with that feature of both colliders
 unfoldable pub proposedWords : ℕ → ℕ → List ℕ

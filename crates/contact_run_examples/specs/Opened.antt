@@ -8,7 +8,7 @@ use Rattle.math.specs.Quat.{axis, dot4, times, inverse, rotate, chordLength}
 use Rattle.math.specs.Root.{rootOf, root}
 use Rattle.math.specs.Vec.{_+v_, _-v_, _*v_, dot, cross, squaredLength, squaredDistance, length3, clampLength, reject}
 use Rattle.rules.specs.Filtering.{movedAnchor, normalSpeedAt, movedPoint, stays, staying, pruned, filtered, withoutEmpty}
-use Rattle.rules.specs.Matching.{byNumber, anchorsMatch, source, matchedPoint, matchContacts, matchAll}
+use Rattle.rules.specs.Matching.{byNumber, byPlace, anchorsMatch, source, matchedPoint, matchContacts, matchAll}
 use Rattle.rules.specs.Numbers as numbers
 use Rattle.rules.specs.Pruning.{projected, weight, point1, point2, sideValue, point3, point4, keptBeside, keptFrom, kept}
 use Rattle.rules.specs.Recycling.{scaledTolerance, scaledRecycle, toleranceFor, radius, leastSquaredDot, squaredMotion, arc, recycles, deltaSeparation, recycledPoint, recycledManifold}
@@ -16,7 +16,7 @@ use Rattle.rules.specs.Sides.{overlap, interact, sideOf}
 use Rattle.rules.specs.Surface.{ruled, combine, frictionOf, restitutionOf, marginOf, clampedVelocity, sweptDistance, effectiveSpeculativeOf, surfaceOf}
 use Rattle.rules.specs.Update.{disjoint, recycledPair, enabled, hooked, matched, changeOf, remaining, renewedFlags, statusBit, renewed, overlapping, updatedBetween, updated}
 use Rattle.collider.specs.Range.{settingsFit, colliderFits, collidersFit, bodyFits, bodiesFit}
-use Rattle.collider.specs.Recorded.{numberIfAt, floatIfAt, coefficientIfAt, settingsOf, presentCollider, colliderAt, presentBody, bodyAt}
+use Rattle.collider.specs.Recorded.{markOr, numberIfAt, floatIfAt, coefficientIfAt, settingsOf, presentCollider, colliderAt, presentBody, bodyAt}
 use Rattle.proposals.specs.Range.{proposalFits, hookFits}
 use Rattle.proposals.specs.Recorded.{proposedPointAt, proposedPointsAt, proposedManifoldAt, proposalAt, hookAt}
 use Rattle.rows.specs.Rows.{part, put}
@@ -55,7 +55,7 @@ openedFiltering = 0
 
 -- matching, and searches through numbers
 unfoldable pub openedMatching : ℕ
-unfolding byNumber anchorsMatch source matchedPoint matchContacts matchAll numbers.first numbers.leader numbers.every numbers.any
+unfolding byNumber byPlace anchorsMatch source matchedPoint matchContacts matchAll numbers.first numbers.leader numbers.every numbers.any
 openedMatching = 0
 
 -- recycling, and what is read of each side
@@ -70,7 +70,7 @@ openedUpdate = 0
 
 -- colliders and bodies
 unfoldable pub openedColliders : ℕ
-unfolding settingsFit colliderFits collidersFit bodyFits bodiesFit numberIfAt floatIfAt coefficientIfAt settingsOf presentCollider colliderAt presentBody bodyAt
+unfolding settingsFit colliderFits collidersFit bodyFits bodiesFit markOr numberIfAt floatIfAt coefficientIfAt settingsOf presentCollider colliderAt presentBody bodyAt
 openedColliders = 0
 
 -- proposals

@@ -2,7 +2,7 @@
 ghost use mathlib.Core.Path.{_≡_};
 ghost use mathlib.Core.Bool.{_&&_};
 ghost use lib.Dec.{eqb};
-ghost use Rattle.rules.specs.Matching.{byNumber, unknown, close, anchorsMatch, matches};
+ghost use Rattle.rules.specs.Matching.{byNumber, featureRule, unknown, close, anchorsMatch, matches};
 ghost use Rattle.contact_types.specs.Views.{pointOf};
 use crate::contact_point::ContactPoint;
 use crate::feature_id::PackedFeatureId;
@@ -15,7 +15,7 @@ fn equal(a1: PackedFeatureId, a2: PackedFeatureId, b1: PackedFeatureId, b2: Pack
     a1.0 == b1.0 && a2.0 == b2.0
 }
 
-// Straight or crossed: the bodies may have changed places. An unknown feature equals another.
+// By number, straight or crossed: the bodies may have changed places. An unknown feature equals another.
 fn same_features(new: ContactPoint, old: ContactPoint) -> bool
     ensures { λ r. ⌜ r ≡ byNumber (pointOf new) (pointOf old) ⌝ }
 {
@@ -32,6 +32,16 @@ fn has_unknown(new: ContactPoint) -> bool
 {
     new.feature_id1.0 == PackedFeatureId::UNKNOWN.0
         || new.feature_id2.0 == PackedFeatureId::UNKNOWN.0
+}
+
+// By place, the features of a new point with an unknown one are not compared.
+fn features_match(new: ContactPoint, old: ContactPoint, by_place: bool) -> bool
+    ensures { λ r. ⌜ r ≡ featureRule «by_place» (pointOf new) (pointOf old) ⌝ }
+{
+    if by_place {
+        return !has_unknown(new) && same_features(new, old);
+    }
+    same_features(new, old)
 }
 
 // a1 and b1, and a2 and b2.
@@ -57,8 +67,8 @@ fn close_anchors(new: ContactPoint, old: ContactPoint, threshold_squared: f32) -
 }
 
 // By features, else by anchors.
-pub fn matches(new: ContactPoint, old: ContactPoint, threshold_squared: f32) -> bool
-    ensures { λ r. ⌜ r ≡ matches byNumber «threshold_squared» (pointOf new) (pointOf old) ⌝ }
+pub fn matches(new: ContactPoint, old: ContactPoint, by_place: bool, threshold_squared: f32) -> bool
+    ensures { λ r. ⌜ r ≡ matches (featureRule «by_place») «threshold_squared» (pointOf new) (pointOf old) ⌝ }
 {
-    same_features(new, old) || close_anchors(new, old, threshold_squared)
+    features_match(new, old, by_place) || close_anchors(new, old, threshold_squared)
 }

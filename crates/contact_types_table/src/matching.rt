@@ -1,4 +1,5 @@
-// Matching of a new manifold with as many old ones as a pair has: the impulses of each new point. Single cases have one old manifold.
+// Matching of a new manifold with as many old ones as a pair has, by number or by place: the impulses of each new point. Single cases
+// have one old manifold.
 // The loops are the table's own: what is tested is `matches`, and the order in which the rule uses it.
 ghost use Prim.Native.Nat.{_≤_};
 ghost use Rattle.rules.specs.Limits.{storedPoints};
@@ -148,7 +149,12 @@ fn with_impulses(mut new: ContactPoint, old: ContactPoint) -> ContactPoint {
 }
 
 // The first old point that matches gives its impulses.
-fn match_point(new: ContactPoint, olds: Points, threshold_squared: f32) -> ContactPoint
+fn match_point(
+    new: ContactPoint,
+    olds: Points,
+    by_place: bool,
+    threshold_squared: f32,
+) -> ContactPoint
     requires { ⌜ olds .count ≤ storedPoints ⌝ }
 {
     let list = olds.list;
@@ -156,7 +162,7 @@ fn match_point(new: ContactPoint, olds: Points, threshold_squared: f32) -> Conta
     let mut k = 0;
     while k < count {
         let old = list[k];
-        if matches(new, old, threshold_squared) {
+        if matches(new, old, by_place, threshold_squared) {
             return with_impulses(new, old);
         }
         k += 1;
@@ -165,7 +171,7 @@ fn match_point(new: ContactPoint, olds: Points, threshold_squared: f32) -> Conta
 }
 
 // Each point, against the points of one old manifold.
-fn match_contacts(mut news: Points, olds: Points, distance_threshold: f32) -> Points
+fn match_contacts(mut news: Points, olds: Points, by_place: bool, distance_threshold: f32) -> Points
     requires { ⌜ (news .count ≤ storedPoints) × (olds .count ≤ storedPoints) ⌝ }
     ensures { λ r. ⌜ r .count ≤ storedPoints ⌝ }
 {
@@ -175,7 +181,7 @@ fn match_contacts(mut news: Points, olds: Points, distance_threshold: f32) -> Po
     let mut j = 0;
     while j < count {
         let new = list[j];
-        let matched = match_point(new, olds, threshold_squared);
+        let matched = match_point(new, olds, by_place, threshold_squared);
         list[j] = matched;
         j += 1;
     }
@@ -186,7 +192,7 @@ fn match_contacts(mut news: Points, olds: Points, distance_threshold: f32) -> Po
 const MANIFOLD_COUNTS: u32 = MANIFOLDS + 1;
 
 // Against each of the case's old manifolds in turn: a later one overrides.
-fn match_all(case: u32, news: Points) -> Points
+fn match_all(case: u32, news: Points, by_place: bool) -> Points
     requires { ⌜ news .count ≤ storedPoints ⌝ }
     ensures { λ r. ⌜ r .count ≤ storedPoints ⌝ }
 {
@@ -195,7 +201,7 @@ fn match_all(case: u32, news: Points) -> Points
     let mut i = 0;
     while i < count {
         let olds = manifold(case, 10 + i);
-        m = match_contacts(m, olds, threshold(case));
+        m = match_contacts(m, olds, by_place, threshold(case));
         i += 1;
     }
     m
@@ -223,34 +229,40 @@ fn print_line(name: &[u8], c: u32, m: Points)
     print_end();
 }
 
-fn print_case(c: u32) {
+fn print_case(c: u32, by_place: bool) {
     let key = draw(c, 1);
     let new = manifold(key, 4);
-    print_line(b"match", c, match_all(key, new));
+    let matched = match_all(key, new, by_place);
+    if by_place {
+        print_line(b"match_place", c, matched);
+    } else {
+        print_line(b"match", c, matched);
+    }
 }
 
-fn print_single_case(c: u32) {
+fn print_single_case(c: u32, by_place: bool) {
     let key = draw(c, 1);
     let new = manifold(key, 4);
-    print_line(
-        b"match_one",
-        c,
-        match_contacts(new, manifold(key, 10), threshold(key)),
-    );
+    let matched = match_contacts(new, manifold(key, 10), by_place, threshold(key));
+    if by_place {
+        print_line(b"match_one_place", c, matched);
+    } else {
+        print_line(b"match_one", c, matched);
+    }
 }
 
-pub fn print_cases() {
+pub fn print_cases(by_place: bool) {
     let mut c = 0;
     while c < 1000 {
-        print_case(c);
+        print_case(c, by_place);
         c += 1;
     }
 }
 
-pub fn print_single_cases() {
+pub fn print_single_cases(by_place: bool) {
     let mut c = 1000;
     while c < 1300 {
-        print_single_case(c);
+        print_single_case(c, by_place);
         c += 1;
     }
 }

@@ -1,6 +1,7 @@
 pub mod After
 pub mod ManifoldFitLaws
 pub mod UpdateFitLaws
+pub mod FeaturesNamedLaws
 pub mod RecordLaws
 pub mod Plain
 pub mod GraphLaws

@@ -17,7 +17,7 @@ use Rattle.rows.specs.Slots.{upto}
 use Rattle.rules.specs.Filtering.{movedAnchor, normalSpeedAt, movedPoint, stays, staying, noPoint, prunePoint, pruned, filtered, isEmpty, withoutEmpty}
 use Rattle.rules.specs.Inputs.{Settings, ProposedPoint, ProposedManifold}
 use Rattle.rules.specs.Limits.{pairManifolds}
-use Rattle.rules.specs.Matching.{byNumber, matchContacts, matchAll}
+use Rattle.rules.specs.Matching.{featureRule, matchContacts, matchAll}
 use Rattle.rules.specs.Pruning.{kept}
 use Rattle.rule_laws.specs.PruningLaws.{kept-four}
 use Rattle.rules.specs.Records.{Point, Manifold, Cache}
@@ -35,7 +35,7 @@ use Rattle.proposals.specs.Recorded.{proposedPointAt, proposedPointsAt, propose
 use Rattle.manifold_matching.specs.MatchedFitLaws.{Each, each-none, each-and, each-first, each-rest, each-at, each-upto, each-map, points-mapped, all-matched}
 
 -- ---- lists, by index. Past the end is whatever the caller says
-each-cond : {A : Type 0} (P : A → Type 0) (t : Bool) (xs ys : List A) → Each P xs → Each P ys → Each P (cond t xs ys)
+pub each-cond : {A : Type 0} (P : A → Type 0) (t : Bool) (xs ys : List A) → Each P xs → Each P ys → Each P (cond t xs ys)
 each-cond P true xs ys h g = h
 each-cond P false xs ys h g = g
 
@@ -95,13 +95,13 @@ moved-fits a b margins normal p h =
       warmStartTangent2 = bits-fit 0;
     }
 
-staying-fits : (stepTime distance : Float) (ps : List Point) → Each FitPoint ps → Each FitPoint (staying stepTime distance ps)
+pub staying-each : (P : Point → Type 0) (stepTime distance : Float) (ps : List Point) → Each P ps → Each P (staying stepTime distance ps)
 unfolding staying
-staying-fits stepTime distance [] h = each-none FitPoint
-staying-fits stepTime distance (p ∷ ps) h =
-    let r = staying-fits stepTime distance ps (each-rest FitPoint p ps h) in
-    each-cond FitPoint (stays stepTime distance p) (p ∷ staying stepTime distance ps) (staying stepTime distance ps)
-    (each-and FitPoint p (staying stepTime distance ps) (each-first FitPoint p ps h) r) r
+staying-each P stepTime distance [] h = each-none P
+staying-each P stepTime distance (p ∷ ps) h =
+    let r = staying-each P stepTime distance ps (each-rest P p ps h) in
+    each-cond P (stays stepTime distance p) (p ∷ staying stepTime distance ps) (staying stepTime distance ps)
+    (each-and P p (staying stepTime distance ps) (each-first P p ps h) r) r
 
 none-fits : FitPoint noPoint
 none-fits =
@@ -139,7 +139,7 @@ filtered-fits stepTime a b f m hf hm =
     record {
       points =
           pruned-fits (m .normal) _
-          (staying-fits stepTime (f .effectiveSpeculative) _
+          (staying-each FitPoint stepTime (f .effectiveSpeculative) _
           (each-map PointFits FitPoint (movedPoint a b (f .margins) (m .normal)) (moved-fits a b (f .margins) (m .normal)) (m .points) (hm .points)));
       normal = hm .normal;
       friction = hf .friction;
@@ -156,12 +156,12 @@ non-empty-few (m ∷ ms) = go (isEmpty (m .points)) (non-empty-few ms)
     go true h = omega arith
     go false h = omega arith
 
-non-empty-each : (ms : List Manifold) → Each FitManifold ms → Each FitManifold (withoutEmpty ms)
+pub non-empty-each : (P : Manifold → Type 0) (ms : List Manifold) → Each P ms → Each P (withoutEmpty ms)
 unfolding withoutEmpty
-non-empty-each [] h = h
-non-empty-each (m ∷ ms) h =
-    let r = non-empty-each ms (each-rest FitManifold m ms h) in
-    each-cond FitManifold (isEmpty (m .points)) (withoutEmpty ms) (m ∷ withoutEmpty ms) r (each-and FitManifold m (withoutEmpty ms) (each-first FitManifold m ms h) r)
+non-empty-each P [] h = h
+non-empty-each P (m ∷ ms) h =
+    let r = non-empty-each P ms (each-rest P m ms h) in
+    each-cond P (isEmpty (m .points)) (withoutEmpty ms) (m ∷ withoutEmpty ms) r (each-and P m (withoutEmpty ms) (each-first P m ms h) r)
 
 -- ---- rule 10
 hooked-fits : (modify answer : Bool) (ms : List Manifold) → FitManifolds ms → FitManifolds (hooked modify answer ms)
@@ -181,7 +181,7 @@ remaining-fits stepTime a b f modify answer proposal hf hp =
     hooked-fits modify answer (withoutEmpty ms)
     (record {
       few = omega (arith, non-empty-few ms, hp .few);
-      each = non-empty-each ms (each-map FitProposed FitManifold (filtered stepTime a b f) (λ m h. filtered-fits stepTime a b f m hf h) proposal (hp .each));
+      each = non-empty-each FitManifold ms (each-map FitProposed FitManifold (filtered stepTime a b f) (λ m h. filtered-fits stepTime a b f m hf h) proposal (hp .each));
     })
 
 -- ---- rule 11
@@ -189,8 +189,8 @@ pub matched-fits : (s : Settings) (olds news : List Manifold) → FitManifolds o
 unfolding matched
 matched-fits s olds news h n = go (s .matchContacts && leb (length news) 4)
   where
-    go : (t : Bool) → FitManifolds (cond t (map (matchAll byNumber (tenth ⊗ s .lengthUnit) olds) news) news)
-    go true = manifolds-mapped (matchAll byNumber (tenth ⊗ s .lengthUnit) olds) (λ m. all-matched byNumber (tenth ⊗ s .lengthUnit) olds m (h .each)) news n
+    go : (t : Bool) → FitManifolds (cond t (map (matchAll (featureRule (s .byPlace)) (tenth ⊗ s .lengthUnit) olds) news) news)
+    go true = manifolds-mapped (matchAll (featureRule (s .byPlace)) (tenth ⊗ s .lengthUnit) olds) (λ m. all-matched (featureRule (s .byPlace)) (tenth ⊗ s .lengthUnit) olds m (h .each)) news n
     go false = n
 
 -- ---- rule 5

@@ -17,7 +17,7 @@ use Rattle.rows.specs.Laws.{length-part, getD-part, put-put, put-comm, put-next
 use Rattle.rows.specs.Rows.{part, put, each}
 use Rattle.rows.specs.Slots.{upto}
 use Rattle.rules.specs.Inputs.{Settings}
-use Rattle.rules.specs.Matching.{byNumber, matchAll}
+use Rattle.rules.specs.Matching.{FeatureRule, featureRule, matchAll}
 use Rattle.rules.specs.Records.{Manifold}
 use Rattle.rules.specs.Update.{matched}
 use Rattle.words.specs.Words.{wordAt}
@@ -52,15 +52,16 @@ module _ (on : Bool) (new old : ℕ) where
 
 -- against none, or against all
 matched-by : (s : Settings) (xs : List ℕ) (old : ℕ) (news : List Manifold) {new m : ℕ} → length news ≡ new → m ≡ cond (s .matchContacts && leb new 4) old 0
-    → map (matchAll byNumber (tenth ⊗ s .lengthUnit) (manifoldsFrom xs m)) news ≡ matched s (manifoldsFrom xs old) news
+    → map (matchAll (featureRule (s .byPlace)) (tenth ⊗ s .lengthUnit) (manifoldsFrom xs m)) news ≡ matched s (manifoldsFrom xs old) news
 unfolding matched matchAll manifoldsFrom upto
 matched-by s xs old news l e =
+    let same = featureRule (s .byPlace) in
     let t = tenth ⊗ s .lengthUnit in
-    ap (λ (k : ℕ). map (matchAll byNumber t (manifoldsFrom xs k)) news) (e ∙ ap (λ (k : ℕ). cond (s .matchContacts && leb k 4) old 0) (sym l)) ∙ go t (s .matchContacts && leb (length news) 4)
+    ap (λ (k : ℕ). map (matchAll same t (manifoldsFrom xs k)) news) (e ∙ ap (λ (k : ℕ). cond (s .matchContacts && leb k 4) old 0) (sym l)) ∙ go same t (s .matchContacts && leb (length news) 4)
   where
-    go : (t : Float) (b : Bool) → map (matchAll byNumber t (manifoldsFrom xs (cond b old 0))) news ≡ cond b (map (matchAll byNumber t (manifoldsFrom xs old)) news) news
-    go t true = refl
-    go t false = map-same _ (λ m. refl) news
+    go : (same : FeatureRule) (t : Float) (b : Bool) → map (matchAll same t (manifoldsFrom xs (cond b old 0))) news ≡ cond b (map (matchAll same t (manifoldsFrom xs old)) news) news
+    go same t true = refl
+    go same t false = map-same _ (λ m. refl) news
 
 -- fewer of them
 pub old-fewer : (b : Bool) (xs : List ℕ) (old : ℕ) {m : ℕ} → m ≡ cond b old 0 → OldManifolds xs old → OldManifolds xs m
@@ -98,10 +99,10 @@ renewed-stored w at news ms n {a} {b} {c} {d} p q r s ln lm h =
 -- all of it
 pub renewed-from : (s : Settings) (w xs : List ℕ) (old : ℕ) (news : List Manifold) {n m : ℕ} {a b c d : List ℕ} → length w ≡ contactSize → FitManifolds news
     → ManifoldsStored news (contactManifolds + 1) w a n → m ≡ cond (s .matchContacts && leb n 4) old 0
-    → ManifoldsMatched (tenth ⊗ s .lengthUnit) (manifoldsFrom xs m) (contactManifolds + 1) n a b → c ≡ put b contactManifolds (n ∷ [])
+    → ManifoldsMatched (featureRule (s .byPlace)) (tenth ⊗ s .lengthUnit) (manifoldsFrom xs m) (contactManifolds + 1) n a b → c ≡ put b contactManifolds (n ∷ [])
     → d ≡ put c (contactManifolds + 1 + n * 81) (zeros (486 - n * 81)) → ManifoldsRenewed s (manifoldsFrom xs old) news w d n
 renewed-from s w xs old news {n} {m} {a} {b} {c} {d} z f stored e matches p q =
-    let ms = map (matchAll byNumber (tenth ⊗ s .lengthUnit) (manifoldsFrom xs m)) news in
+    let ms = map (matchAll (featureRule (s .byPlace)) (tenth ⊗ s .lengthUnit) (manifoldsFrom xs m)) news in
     let held = news-held w (contactManifolds + 1) news (stored .words) (stored .count) (omega (arith, stored .few)) in
     record {
       words = renewed-stored w contactManifolds news ms n (stored .words) (matches .words news f (stored .count) held) p q (stored .count) (length-map news _ ∙ stored .count) (stored .few)

@@ -92,7 +92,7 @@ fn renew_from(
     let first = CONTACT_MANIFOLDS + 1;
     let n = store_remaining(proposal, s.step_time, a, b, f, modify, words, first);
     let m = matched_count(s, old, n as u32) as usize;
-    match_manifolds(words, first, n, olds, m, TENTH * s.length_unit);
+    match_manifolds(words, first, n, olds, m, s.by_place, TENTH * s.length_unit);
     store_word(words, CONTACT_MANIFOLDS, n as u32);
     store_zeros(
         words,

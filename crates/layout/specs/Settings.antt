@@ -27,5 +27,9 @@ settingsFriction = 6
 abbrev pub settingsRestitution : ℕ
 settingsRestitution = 8
 
+-- the matching setting: presence mark, mark
+abbrev pub settingsMatching : ℕ
+settingsMatching = 10
+
 abbrev pub settingsLength : ℕ
-settingsLength = 10
+settingsLength = 12

@@ -18,4 +18,7 @@ pub const SETTINGS_FRICTION: usize = 6;
 
 pub const SETTINGS_RESTITUTION: usize = 8;
 
-pub const SETTINGS_LENGTH: usize = 10;
+// The matching setting: presence mark, mark.
+pub const SETTINGS_MATCHING: usize = 10;
+
+pub const SETTINGS_LENGTH: usize = 12;

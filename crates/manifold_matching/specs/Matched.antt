@@ -7,7 +7,7 @@ use lib.ListN.{length}
 use Rattle.rows.specs.Rows.{put, each}
 use Rattle.rows.specs.Slots.{upto}
 use Rattle.rules.specs.Limits.{storedPoints, pairManifolds}
-use Rattle.rules.specs.Matching.{byNumber, matchedPoint, matchContacts, matchAll}
+use Rattle.rules.specs.Matching.{FeatureRule, matchedPoint, matchContacts, matchAll}
 use Rattle.rules.specs.Records.{Point, Manifold}
 use Rattle.words.specs.Words.{wordAt, floatWord}
 use Rattle.layout.specs.Manifold.{manifoldSize}
@@ -44,15 +44,15 @@ pub record OldManifolds (xs : List ℕ) (m : ℕ) : Type 0 where
   pub long : m * manifoldSize ≤ length xs
   pub points : (k : ℕ) → k < m → wordAt xs (k * manifoldSize) ≤ storedPoints
 
--- ---- what is promised, of whatever point or manifold's words they are
-pub record PointMatched (square : Float) (olds : List Point) (at : ℕ) (before after : List ℕ) : Type 0 where
-  pub words : (p : Point) → FitPoint p → Holds before at (pointWords p) → after ≡ put before at (pointWords (matchedPoint byNumber square olds p))
+-- ---- what is promised, of whatever point or manifold's words they are, under either rule
+pub record PointMatched (same : FeatureRule) (square : Float) (olds : List Point) (at : ℕ) (before after : List ℕ) : Type 0 where
+  pub words : (p : Point) → FitPoint p → Holds before at (pointWords p) → after ≡ put before at (pointWords (matchedPoint same square olds p))
 
-pub record ManifoldMatched (threshold : Float) (olds : List Point) (at : ℕ) (before after : List ℕ) : Type 0 where
-  pub words : (m : Manifold) → FitManifold m → Holds before at (manifoldWords m) → after ≡ put before at (manifoldWords (matchContacts byNumber threshold olds m))
+pub record ManifoldMatched (same : FeatureRule) (threshold : Float) (olds : List Point) (at : ℕ) (before after : List ℕ) : Type 0 where
+  pub words : (m : Manifold) → FitManifold m → Holds before at (manifoldWords m) → after ≡ put before at (manifoldWords (matchContacts same threshold olds m))
 
-pub record AllMatched (threshold : Float) (olds : List Manifold) (at : ℕ) (before after : List ℕ) : Type 0 where
-  pub words : (m : Manifold) → FitManifold m → Holds before at (manifoldWords m) → after ≡ put before at (manifoldWords (matchAll byNumber threshold olds m))
+pub record AllMatched (same : FeatureRule) (threshold : Float) (olds : List Manifold) (at : ℕ) (before after : List ℕ) : Type 0 where
+  pub words : (m : Manifold) → FitManifold m → Holds before at (manifoldWords m) → after ≡ put before at (manifoldWords (matchAll same threshold olds m))
 
-pub record ManifoldsMatched (threshold : Float) (olds : List Manifold) (at n : ℕ) (before after : List ℕ) : Type 0 where
-  pub words : (ms : List Manifold) → FitManifolds ms → length ms ≡ n → Holds before at (each manifoldWords ms) → after ≡ put before at (each manifoldWords (map (matchAll byNumber threshold olds) ms))
+pub record ManifoldsMatched (same : FeatureRule) (threshold : Float) (olds : List Manifold) (at n : ℕ) (before after : List ℕ) : Type 0 where
+  pub words : (ms : List Manifold) → FitManifolds ms → length ms ≡ n → Holds before at (each manifoldWords ms) → after ≡ put before at (each manifoldWords (map (matchAll same threshold olds) ms))

@@ -13,7 +13,7 @@ use Rattle.rows.specs.EachLaws.{length-each}
 use Rattle.rows.specs.Laws.{put-next, put-put}
 use Rattle.rows.specs.Rows.{put, each}
 use Rattle.rows.specs.Slots.{upto}
-use Rattle.rules.specs.Matching.{byNumber, matches, withImpulses, matchedPoint, withPoints, matchContacts, matchAll}
+use Rattle.rules.specs.Matching.{FeatureRule, matches, withImpulses, matchedPoint, withPoints, matchContacts, matchAll}
 use Rattle.rule_laws.specs.MatchingLaws.{NoneBefore, none-before-next, matched-found, matched-none}
 use Rattle.rules.specs.Records.{Point, Manifold}
 use Rattle.words.specs.Words.{wordAt, floatAt, floatWord}
@@ -43,10 +43,10 @@ impulses-taken xs at olds from {n} {t} {u} e p f q g r =
     ∙ (λ i. put xs (at + 13) (floatWord (e i) ∷ floatWord (f i) ∷ floatWord (g i) ∷ []))
 
 -- ---- the search through n old points
-module _ (square : Float) (olds : List ℕ) (from n : ℕ) (xs : List ℕ) (at : ℕ) where
+module _ (same : FeatureRule) (square : Float) (olds : List ℕ) (from n : ℕ) (xs : List ℕ) (at : ℕ) where
   -- none before k matches
   abbrev pub Unmatched : ℕ → Type 0
-  Unmatched k = NoneBefore byNumber square (pointsAt olds from n) (pointAt xs at) k
+  Unmatched k = NoneBefore same square (pointsAt olds from n) (pointAt xs at) k
 
   old-count : length (pointsAt olds from n) ≡ n
   unfolding pointsAt
@@ -58,34 +58,34 @@ module _ (square : Float) (olds : List ℕ) (from n : ℕ) (xs : List ℕ) (at :
     old-is d = getD-map-upto (λ (i : ℕ). pointAt olds (from + i * 18)) n k d below
 
     -- what the code has found, of the points that it has loaded
-    found : {new old : Point} {m b : Bool} → new ≡ pointAt xs at → old ≡ pointAt olds (from + k * 18) → m ≡ matches byNumber square new old → m ≡ b
-        → matches byNumber square (pointAt xs at) (getD (pointsAt olds from n) k (pointAt xs at)) ≡ b
-    found e f g h = sym (g ∙ (λ i. matches byNumber square (e i) ((f ∙ sym (old-is (pointAt xs at))) i))) ∙ h
+    found : {new old : Point} {m b : Bool} → new ≡ pointAt xs at → old ≡ pointAt olds (from + k * 18) → m ≡ matches same square new old → m ≡ b
+        → matches same square (pointAt xs at) (getD (pointsAt olds from n) k (pointAt xs at)) ≡ b
+    found e f g h = sym (g ∙ (λ i. matches same square (e i) ((f ∙ sym (old-is (pointAt xs at))) i))) ∙ h
 
-    pub unmatched-next : {new old : Point} {m : Bool} → Unmatched k → new ≡ pointAt xs at → old ≡ pointAt olds (from + k * 18) → m ≡ matches byNumber square new old → m ≡ false → Unmatched (k + 1)
-    unmatched-next u e f g h = none-before-next byNumber square (pointsAt olds from n) (pointAt xs at) k u (found e f g h)
+    pub unmatched-next : {new old : Point} {m : Bool} → Unmatched k → new ≡ pointAt xs at → old ≡ pointAt olds (from + k * 18) → m ≡ matches same square new old → m ≡ false → Unmatched (k + 1)
+    unmatched-next u e f g h = none-before-next same square (pointsAt olds from n) (pointAt xs at) k u (found e f g h)
 
-    pub matched-at : {new old : Point} {m : Bool} {ys zs : List ℕ} → Unmatched k → new ≡ pointAt xs at → old ≡ pointAt olds (from + k * 18) → m ≡ matches byNumber square new old → m ≡ true
-        → zs ≡ xs → ys ≡ put zs (at + 13) (impulseWords (pointAt olds (from + k * 18))) → PointMatched square (pointsAt olds from n) at xs ys
+    pub matched-at : {new old : Point} {m : Bool} {ys zs : List ℕ} → Unmatched k → new ≡ pointAt xs at → old ≡ pointAt olds (from + k * 18) → m ≡ matches same square new old → m ≡ true
+        → zs ≡ xs → ys ≡ put zs (at + 13) (impulseWords (pointAt olds (from + k * 18))) → PointMatched same square (pointsAt olds from n) at xs ys
     matched-at u e f g h s q =
         let os = pointsAt olds from n in
         let old = pointAt olds (from + k * 18) in
         let l : length os ≡ n = old-count in
-        let t : matchedPoint byNumber square os (pointAt xs at) ≡ withImpulses (pointAt xs at) old =
-        matched-found byNumber square os (pointAt xs at) k u (found e f g h) (omega arith) ∙ ap (withImpulses (pointAt xs at)) (old-is (pointAt xs at)) in
+        let t : matchedPoint same square os (pointAt xs at) ≡ withImpulses (pointAt xs at) old =
+        matched-found same square os (pointAt xs at) k u (found e f g h) (omega arith) ∙ ap (withImpulses (pointAt xs at)) (old-is (pointAt xs at)) in
         record {
           words = λ p fit held. let z = point-held p fit held in
               q ∙ ap (λ (ws : List ℕ). put ws (at + 13) (impulseWords old)) s ∙ impulses-stored xs at p old held
-              ∙ ap (λ (r : Point). put xs at (pointWords r)) (ap (λ (r : Point). withImpulses r old) (sym z) ∙ sym t ∙ ap (matchedPoint byNumber square os) z);
+              ∙ ap (λ (r : Point). put xs at (pointWords r)) (ap (λ (r : Point). withImpulses r old) (sym z) ∙ sym t ∙ ap (matchedPoint same square os) z);
         }
 
-  pub unmatched-all : (k : ℕ) → k ≡ n → Unmatched k → PointMatched square (pointsAt olds from n) at xs xs
+  pub unmatched-all : (k : ℕ) → k ≡ n → Unmatched k → PointMatched same square (pointsAt olds from n) at xs xs
   unmatched-all k e u =
       let os = pointsAt olds from n in
-      let t : matchedPoint byNumber square os (pointAt xs at) ≡ pointAt xs at = matched-none byNumber square os (pointAt xs at) (subst Unmatched (e ∙ sym old-count) u) in
+      let t : matchedPoint same square os (pointAt xs at) ≡ pointAt xs at = matched-none same square os (pointAt xs at) (subst Unmatched (e ∙ sym old-count) u) in
       record {
         words = λ p fit held. let z = point-held p fit held in
-            sym (put-held xs at (pointWords p) held) ∙ ap (λ (r : Point). put xs at (pointWords r)) (sym z ∙ sym t ∙ ap (matchedPoint byNumber square os) z);
+            sym (put-held xs at (pointWords p) held) ∙ ap (λ (r : Point). put xs at (pointWords r)) (sym z ∙ sym t ∙ ap (matchedPoint same square os) z);
       }
 
 -- ---- the manifold that stands at a place
@@ -129,11 +129,11 @@ module _ (xs : List ℕ) (at : ℕ) (a : Manifold) {ys : List ℕ} (e : ys ≡ p
 abbrev pub matchedFirst : (Point → Point) → ℕ → Manifold → Manifold
 matchedFirst f k m = withPoints m (front f k (m .points))
 
-pub contacts-next : (square : Float) (olds : List Point) (xs : List ℕ) (at k : ℕ) (m : Manifold) {ys zs : List ℕ} → FitManifold m → k < length (m .points) → at + 81 ≤ length xs
-    → ys ≡ put xs at (manifoldWords (matchedFirst (matchedPoint byNumber square olds) k m)) → PointMatched square olds (at + 9 + k * 18) ys zs
-    → zs ≡ put xs at (manifoldWords (matchedFirst (matchedPoint byNumber square olds) (k + 1) m))
-contacts-next square olds xs at k m {ys} fit l room e r =
-    let f = matchedPoint byNumber square olds in
+pub contacts-next : (same : FeatureRule) (square : Float) (olds : List Point) (xs : List ℕ) (at k : ℕ) (m : Manifold) {ys zs : List ℕ} → FitManifold m → k < length (m .points) → at + 81 ≤ length xs
+    → ys ≡ put xs at (manifoldWords (matchedFirst (matchedPoint same square olds) k m)) → PointMatched same square olds (at + 9 + k * 18) ys zs
+    → zs ≡ put xs at (manifoldWords (matchedFirst (matchedPoint same square olds) (k + 1) m))
+contacts-next same square olds xs at k m {ys} fit l room e r =
+    let f = matchedPoint same square olds in
     let d = pointAt xs at in
     let p = getD (m .points) k d in
     let a : Manifold = matchedFirst f k m in
@@ -152,73 +152,73 @@ old-points-are : (olds : List ℕ) (from n : ℕ) → n ≡ wordAt olds from →
 unfolding manifoldAt
 old-points-are olds from n e = ap (pointsAt olds (from + 9)) e
 
-pub contacts-all : (threshold : Float) (olds : List ℕ) (from n : ℕ) (xs : List ℕ) (at count k : ℕ) {ys : List ℕ} → n ≡ wordAt olds from → count ≡ wordAt xs at → count ≤ k
-    → ys ≡ put xs at (manifoldWords (matchedFirst (matchedPoint byNumber (threshold ⊗ threshold) (pointsAt olds (from + 9) n)) k (manifoldAt xs at)))
-    → ManifoldMatched threshold (manifoldAt olds from .points) at xs ys
+pub contacts-all : (same : FeatureRule) (threshold : Float) (olds : List ℕ) (from n : ℕ) (xs : List ℕ) (at count k : ℕ) {ys : List ℕ} → n ≡ wordAt olds from → count ≡ wordAt xs at → count ≤ k
+    → ys ≡ put xs at (manifoldWords (matchedFirst (matchedPoint same (threshold ⊗ threshold) (pointsAt olds (from + 9) n)) k (manifoldAt xs at)))
+    → ManifoldMatched same threshold (manifoldAt olds from .points) at xs ys
 unfolding matchContacts
-contacts-all threshold olds from n xs at count k o c l e =
+contacts-all same threshold olds from n xs at count k o c l e =
     let m = manifoldAt xs at in
     let q = count-read xs at in
-    let f : Point → Point = matchedPoint byNumber (threshold ⊗ threshold) (pointsAt olds (from + 9) n) in
+    let f : Point → Point = matchedPoint same (threshold ⊗ threshold) (pointsAt olds (from + 9) n) in
     record {
-      words = by-any (matchContacts byNumber threshold (manifoldAt olds from .points)) xs at
+      words = by-any (matchContacts same threshold (manifoldAt olds from .points)) xs at
           (e ∙ ap (λ (ps : List Point). put xs at (manifoldWords (withPoints m ps))) (front-all f k (m .points) (omega arith))
-          ∙ ap (λ (os : List Point). put xs at (manifoldWords (matchContacts byNumber threshold os m))) (old-points-are olds from n o));
+          ∙ ap (λ (os : List Point). put xs at (manifoldWords (matchContacts same threshold os m))) (old-points-are olds from n o));
     }
 
 -- ---- the old manifolds in turn
-match-last : (threshold : Float) (os : List Manifold) (o m : Manifold)
-    → matchAll byNumber threshold (os ++ o ∷ []) m ≡ matchContacts byNumber threshold (o .points) (matchAll byNumber threshold os m)
+match-last : (same : FeatureRule) (threshold : Float) (os : List Manifold) (o m : Manifold)
+    → matchAll same threshold (os ++ o ∷ []) m ≡ matchContacts same threshold (o .points) (matchAll same threshold os m)
 unfolding matchAll
-match-last threshold [] o m = refl
-match-last threshold (u ∷ os) o m = match-last threshold os o (matchContacts byNumber threshold (u .points) m)
+match-last same threshold [] o m = refl
+match-last same threshold (u ∷ os) o m = match-last same threshold os o (matchContacts same threshold (u .points) m)
 
 -- matched against the first j manifolds of a row
-abbrev pub matchedBy : Float → List ℕ → ℕ → Manifold → Manifold
-matchedBy threshold olds j m = matchAll byNumber threshold (manifoldsFrom olds j) m
+abbrev pub matchedBy : FeatureRule → Float → List ℕ → ℕ → Manifold → Manifold
+matchedBy same threshold olds j m = matchAll same threshold (manifoldsFrom olds j) m
 
-matched-none-yet : (threshold : Float) (olds : List ℕ) (m : Manifold) → matchedBy threshold olds 0 m ≡ m
+matched-none-yet : (same : FeatureRule) (threshold : Float) (olds : List ℕ) (m : Manifold) → matchedBy same threshold olds 0 m ≡ m
 unfolding manifoldsFrom matchAll upto
-matched-none-yet threshold olds m = refl
+matched-none-yet same threshold olds m = refl
 
-matched-next : (threshold : Float) (olds : List ℕ) (j : ℕ) (m : Manifold)
-    → matchContacts byNumber threshold (manifoldAt olds (j * 81) .points) (matchedBy threshold olds j m) ≡ matchedBy threshold olds (j + 1) m
+matched-next : (same : FeatureRule) (threshold : Float) (olds : List ℕ) (j : ℕ) (m : Manifold)
+    → matchContacts same threshold (manifoldAt olds (j * 81) .points) (matchedBy same threshold olds j m) ≡ matchedBy same threshold olds (j + 1) m
 unfolding manifoldsFrom
-matched-next threshold olds j m =
-    sym (match-last threshold (manifoldsFrom olds j) (manifoldAt olds (j * 81)) m)
-    ∙ ap (λ (os : List Manifold). matchAll byNumber threshold os m) (sym (map-upto-next (λ (k : ℕ). manifoldAt olds (k * 81)) j))
+matched-next same threshold olds j m =
+    sym (match-last same threshold (manifoldsFrom olds j) (manifoldAt olds (j * 81)) m)
+    ∙ ap (λ (os : List Manifold). matchAll same threshold os m) (sym (map-upto-next (λ (k : ℕ). manifoldAt olds (k * 81)) j))
 
-matched-fits : (threshold : Float) (olds : List ℕ) (n j : ℕ) (m : Manifold) → OldManifolds olds n → j ≤ n → FitManifold m → FitManifold (matchedBy threshold olds j m)
+matched-fits : (same : FeatureRule) (threshold : Float) (olds : List ℕ) (n j : ℕ) (m : Manifold) → OldManifolds olds n → j ≤ n → FitManifold m → FitManifold (matchedBy same threshold olds j m)
 unfolding manifoldsFrom
-matched-fits threshold olds n j m o l fit =
-    all-matched byNumber threshold (manifoldsFrom olds j) m
+matched-fits same threshold olds n j m o l fit =
+    all-matched same threshold (manifoldsFrom olds j) m
     (each-upto FitManifold (λ (k : ℕ). manifoldAt olds (k * 81)) j (λ k b. manifold-fits olds (k * 81) (o .points k (omega arith)))) fit
 
-pub all-begin : (threshold : Float) (olds xs : List ℕ) (at : ℕ) → WrittenManifold xs at → xs ≡ put xs at (manifoldWords (matchedBy threshold olds 0 (manifoldAt xs at)))
-all-begin threshold olds xs at w = read-stored xs at w ∙ ap (λ (m : Manifold). put xs at (manifoldWords m)) (sym (matched-none-yet threshold olds (manifoldAt xs at)))
+pub all-begin : (same : FeatureRule) (threshold : Float) (olds xs : List ℕ) (at : ℕ) → WrittenManifold xs at → xs ≡ put xs at (manifoldWords (matchedBy same threshold olds 0 (manifoldAt xs at)))
+all-begin same threshold olds xs at w = read-stored xs at w ∙ ap (λ (m : Manifold). put xs at (manifoldWords m)) (sym (matched-none-yet same threshold olds (manifoldAt xs at)))
 
 -- a turn, against old manifold j of n
-module _ (threshold : Float) (olds : List ℕ) (n j : ℕ) (xs : List ℕ) (at : ℕ) {ys : List ℕ} (o : OldManifolds olds n) (l : j < n) (w : WrittenManifold xs at) (room : at + 81 ≤ length xs)
-    (e : ys ≡ put xs at (manifoldWords (matchedBy threshold olds j (manifoldAt xs at)))) where
-  all-fits : FitManifold (matchedBy threshold olds j (manifoldAt xs at))
-  all-fits = matched-fits threshold olds n j (manifoldAt xs at) o (omega arith) (read-fits xs at w)
+module _ (same : FeatureRule) (threshold : Float) (olds : List ℕ) (n j : ℕ) (xs : List ℕ) (at : ℕ) {ys : List ℕ} (o : OldManifolds olds n) (l : j < n) (w : WrittenManifold xs at) (room : at + 81 ≤ length xs)
+    (e : ys ≡ put xs at (manifoldWords (matchedBy same threshold olds j (manifoldAt xs at)))) where
+  all-fits : FitManifold (matchedBy same threshold olds j (manifoldAt xs at))
+  all-fits = matched-fits same threshold olds n j (manifoldAt xs at) o (omega arith) (read-fits xs at w)
 
-  all-held : Holds ys at (manifoldWords (matchedBy threshold olds j (manifoldAt xs at)))
-  all-held = stored-held xs at (matchedBy threshold olds j (manifoldAt xs at)) e room
+  all-held : Holds ys at (manifoldWords (matchedBy same threshold olds j (manifoldAt xs at)))
+  all-held = stored-held xs at (matchedBy same threshold olds j (manifoldAt xs at)) e room
 
   pub all-written : WrittenManifold ys at
-  all-written = record { manifold = matchedBy threshold olds j (manifoldAt xs at); fits = all-fits; held = all-held }
+  all-written = record { manifold = matchedBy same threshold olds j (manifoldAt xs at); fits = all-fits; held = all-held }
 
-  pub all-next : {zs : List ℕ} → ManifoldMatched threshold (manifoldAt olds (j * 81) .points) at ys zs → zs ≡ put xs at (manifoldWords (matchedBy threshold olds (j + 1) (manifoldAt xs at)))
+  pub all-next : {zs : List ℕ} → ManifoldMatched same threshold (manifoldAt olds (j * 81) .points) at ys zs → zs ≡ put xs at (manifoldWords (matchedBy same threshold olds (j + 1) (manifoldAt xs at)))
   all-next r =
       let m = manifoldAt xs at in
-      stored-again xs at (matchedBy threshold olds j m) e (matchedBy threshold olds (j + 1) m)
-      (r .words (matchedBy threshold olds j m) all-fits all-held ∙ ap (λ (b : Manifold). put ys at (manifoldWords b)) (matched-next threshold olds j m))
+      stored-again xs at (matchedBy same threshold olds j m) e (matchedBy same threshold olds (j + 1) m)
+      (r .words (matchedBy same threshold olds j m) all-fits all-held ∙ ap (λ (b : Manifold). put ys at (manifoldWords b)) (matched-next same threshold olds j m))
 
-pub all-end : (threshold : Float) (olds xs : List ℕ) (at n j : ℕ) {ys : List ℕ} → j ≡ n → ys ≡ put xs at (manifoldWords (matchedBy threshold olds j (manifoldAt xs at)))
-    → AllMatched threshold (manifoldsFrom olds n) at xs ys
-all-end threshold olds xs at n j {ys} z e =
-    record { words = by-any (matchedBy threshold olds n) xs at (subst (λ (k : ℕ). ys ≡ put xs at (manifoldWords (matchedBy threshold olds k (manifoldAt xs at)))) z e) }
+pub all-end : (same : FeatureRule) (threshold : Float) (olds xs : List ℕ) (at n j : ℕ) {ys : List ℕ} → j ≡ n → ys ≡ put xs at (manifoldWords (matchedBy same threshold olds j (manifoldAt xs at)))
+    → AllMatched same threshold (manifoldsFrom olds n) at xs ys
+all-end same threshold olds xs at n j {ys} z e =
+    record { words = by-any (matchedBy same threshold olds n) xs at (subst (λ (k : ℕ). ys ≡ put xs at (manifoldWords (matchedBy same threshold olds k (manifoldAt xs at)))) z e) }
 
 -- ---- the manifolds that stand one after another
 -- n of them, from a place on
@@ -271,8 +271,8 @@ module _ (f : Manifold → Manifold) (xs : List ℕ) (at n : ℕ) (ms : List Man
       ∙ ap (λ (us : List Manifold). put ys at (each manifoldWords us)) (front-next f i ms d (omega arith))
       ∙ ap (λ (ws : List ℕ). put ws at (each manifoldWords next)) e ∙ put-put xs at (each manifoldWords (front f i ms)) (each manifoldWords next) (a ∙ sym b)
 
-module _ (threshold : Float) (olds : List Manifold) (xs : List ℕ) (at n i : ℕ) {ys : List ℕ} (w : WrittenManifolds xs at n) (l : i < n) (room : at + n * 81 ≤ length xs)
-    (e : ys ≡ put xs at (each manifoldWords (front (matchAll byNumber threshold olds) i (manifoldsRead xs at n)))) where
+module _ (same : FeatureRule) (threshold : Float) (olds : List Manifold) (xs : List ℕ) (at n i : ℕ) {ys : List ℕ} (w : WrittenManifolds xs at n) (l : i < n) (room : at + n * 81 ≤ length xs)
+    (e : ys ≡ put xs at (each manifoldWords (front (matchAll same threshold olds) i (manifoldsRead xs at n)))) where
   one-fits : FitManifold (getD (manifoldsRead xs at n) i (manifoldAt xs at))
   one-fits =
       subst (λ (ms : List Manifold). FitManifold (getD ms i (manifoldAt xs at))) (sym (all-read xs at n (w .manifolds) (w .fits) (w .count) (w .held)))
@@ -283,21 +283,21 @@ module _ (threshold : Float) (olds : List Manifold) (xs : List ℕ) (at n i : �
       record {
         manifold = getD (manifoldsRead xs at n) i (manifoldAt xs at);
         fits = one-fits;
-        held = one-held (matchAll byNumber threshold olds) xs at n (manifoldsRead xs at n) i (manifoldAt xs at) (count-all xs at n) l room e;
+        held = one-held (matchAll same threshold olds) xs at n (manifoldsRead xs at n) i (manifoldAt xs at) (count-all xs at n) l room e;
       }
 
-  pub manifolds-next : {zs : List ℕ} → AllMatched threshold olds (at + i * 81) ys zs
-      → zs ≡ put xs at (each manifoldWords (front (matchAll byNumber threshold olds) (i + 1) (manifoldsRead xs at n)))
+  pub manifolds-next : {zs : List ℕ} → AllMatched same threshold olds (at + i * 81) ys zs
+      → zs ≡ put xs at (each manifoldWords (front (matchAll same threshold olds) (i + 1) (manifoldsRead xs at n)))
   manifolds-next r =
-      let f = matchAll byNumber threshold olds in
+      let f = matchAll same threshold olds in
       let ms = manifoldsRead xs at n in
       let d = manifoldAt xs at in
       front-stored f xs at n ms i d (count-all xs at n) l room e (r .words (getD ms i d) one-fits (one-held f xs at n ms i d (count-all xs at n) l room e))
 
-pub manifolds-end : (threshold : Float) (olds : List Manifold) (xs : List ℕ) (at n i : ℕ) {ys : List ℕ} → n ≤ i
-    → ys ≡ put xs at (each manifoldWords (front (matchAll byNumber threshold olds) i (manifoldsRead xs at n))) → ManifoldsMatched threshold olds at n xs ys
-manifolds-end threshold olds xs at n i l e =
-    let f = matchAll byNumber threshold olds in
+pub manifolds-end : (same : FeatureRule) (threshold : Float) (olds : List Manifold) (xs : List ℕ) (at n i : ℕ) {ys : List ℕ} → n ≤ i
+    → ys ≡ put xs at (each manifoldWords (front (matchAll same threshold olds) i (manifoldsRead xs at n))) → ManifoldsMatched same threshold olds at n xs ys
+manifolds-end same threshold olds xs at n i l e =
+    let f = matchAll same threshold olds in
     record {
       words = λ ms fit count held.
           e ∙ ap (λ (us : List Manifold). put xs at (each manifoldWords (front f i us))) (all-read xs at n ms fit count held)

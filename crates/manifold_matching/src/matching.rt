@@ -7,6 +7,7 @@ ghost use Rattle.words.specs.Words.{wordAt};
 ghost use Rattle.layout.specs.Manifold.{manifoldSize, pointsSize};
 ghost use Rattle.layout.specs.Point.{pointSize, pointWarmStartNormalImpulse};
 ghost use Rattle.rules.specs.Limits.{storedPoints};
+ghost use Rattle.rules.specs.Matching.{featureRule};
 ghost use Rattle.manifold_records.specs.Recorded.{pointAt, pointsAt, manifoldAt};
 ghost use Rattle.manifold_matching.specs.Matched.{impulseWords, manifoldsFrom, WrittenManifold, WrittenManifolds, OldManifolds, PointMatched, ManifoldMatched, AllMatched, ManifoldsMatched};
 use contact_types::matching::matches;
@@ -50,16 +51,17 @@ fn match_point(
     olds: &[u32],
     from: usize,
     n: usize,
+    by_place: bool,
     threshold_squared: f32,
 )
     requires { ⌜ (at + pointSize ≤ length (now words)) × (n ≤ storedPoints) × (from + pointsSize ≤ length (now olds)) ⌝ }
-    ensures { λ _. ⌜ PointMatched «threshold_squared» (pointsAt (now (olds .entry)) from n) at (now (words .entry)) (now (words .exit)) ⌝ }
+    ensures { λ _. ⌜ PointMatched (featureRule «by_place») «threshold_squared» (pointsAt (now (olds .entry)) from n) at (now (words .entry)) (now (words .exit)) ⌝ }
 {
     let new = load_point(words, at);
     let mut k = 0;
     while k < n {
         let old = load_point(olds, from + k * POINT_SIZE);
-        if matches(new, old, threshold_squared) {
+        if matches(new, old, by_place, threshold_squared) {
             take_impulses(words, at, olds, from + k * POINT_SIZE);
             return;
         }
@@ -68,9 +70,16 @@ fn match_point(
 }
 
 // Each point of the manifold, against the points of one old manifold.
-fn match_contacts(words: &mut [u32], at: usize, olds: &[u32], from: usize, threshold: f32)
+fn match_contacts(
+    words: &mut [u32],
+    at: usize,
+    olds: &[u32],
+    from: usize,
+    by_place: bool,
+    threshold: f32,
+)
     requires { ⌜ WrittenManifold (now words) at × (at + manifoldSize ≤ length (now words)) × (from + manifoldSize ≤ length (now olds)) × (wordAt (now olds) from ≤ storedPoints) ⌝ }
-    ensures { λ _. ⌜ ManifoldMatched threshold (manifoldAt (now (olds .entry)) from .points) at (now (words .entry)) (now (words .exit)) ⌝ }
+    ensures { λ _. ⌜ ManifoldMatched (featureRule «by_place») threshold (manifoldAt (now (olds .entry)) from .points) at (now (words .entry)) (now (words .exit)) ⌝ }
 {
     let threshold_squared = threshold * threshold;
     let count = load_word(words, at) as usize;
@@ -83,6 +92,7 @@ fn match_contacts(words: &mut [u32], at: usize, olds: &[u32], from: usize, thres
             olds,
             from + MANIFOLD_POINTS,
             n,
+            by_place,
             threshold_squared,
         );
         k += 1;
@@ -90,13 +100,13 @@ fn match_contacts(words: &mut [u32], at: usize, olds: &[u32], from: usize, thres
 }
 
 // Against each of the m old manifolds in turn: a later one overrides.
-fn match_all(words: &mut [u32], at: usize, olds: &[u32], m: usize, threshold: f32)
+fn match_all(words: &mut [u32], at: usize, olds: &[u32], m: usize, by_place: bool, threshold: f32)
     requires { ⌜ WrittenManifold (now words) at × (at + manifoldSize ≤ length (now words)) × OldManifolds (now olds) m ⌝ }
-    ensures { λ _. ⌜ AllMatched threshold (manifoldsFrom (now (olds .entry)) m) at (now (words .entry)) (now (words .exit)) ⌝ }
+    ensures { λ _. ⌜ AllMatched (featureRule «by_place») threshold (manifoldsFrom (now (olds .entry)) m) at (now (words .entry)) (now (words .exit)) ⌝ }
 {
     let mut j = 0;
     while j < m {
-        match_contacts(words, at, olds, j * MANIFOLD_SIZE, threshold);
+        match_contacts(words, at, olds, j * MANIFOLD_SIZE, by_place, threshold);
         j += 1;
     }
 }
@@ -108,14 +118,15 @@ pub fn match_manifolds(
     n: usize,
     olds: &[u32],
     m: usize,
+    by_place: bool,
     threshold: f32,
 )
     requires { ⌜ WrittenManifolds (now words) at n × (at + n * manifoldSize ≤ length (now words)) × OldManifolds (now olds) m ⌝ }
-    ensures { λ _. ⌜ ManifoldsMatched threshold (manifoldsFrom (now (olds .entry)) m) at n (now (words .entry)) (now (words .exit)) ⌝ }
+    ensures { λ _. ⌜ ManifoldsMatched (featureRule «by_place») threshold (manifoldsFrom (now (olds .entry)) m) at n (now (words .entry)) (now (words .exit)) ⌝ }
 {
     let mut i = 0;
     while i < n {
-        match_all(words, at + i * MANIFOLD_SIZE, olds, m, threshold);
+        match_all(words, at + i * MANIFOLD_SIZE, olds, m, by_place, threshold);
         i += 1;
     }
 }

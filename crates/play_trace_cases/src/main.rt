@@ -95,10 +95,22 @@ fn print_fourth() {
     print_case(b"last_feed_missing");
     print_case(b"field_missing");
     print_case(b"settings_of_9_fields");
-    print_case(b"settings_of_11_fields");
+    print_case(b"settings_of_12_fields");
     print_case(b"settings_tab_at_end");
-    print_case(b"settings_dash_at_end");
     print_case(b"unreadable_passed_over");
+}
+
+fn print_fifth() {
+    print_case(b"matching");
+    print_case(b"matching_out_of_range");
+    print_case(b"matching_replaced_out_of_range");
+    print_case(b"matching_too_large");
+    print_case(b"matching_minus");
+    print_case(b"matching_two_dashes");
+    print_case(b"matching_tab_at_end");
+    print_case(b"matching_dash_tab_at_end");
+    print_case(b"matching_feed_missing");
+    print_case(b"matching_dash_feed_missing");
     print_case(b"longest");
     print_case(b"too_long");
 }
@@ -108,4 +120,5 @@ fn main() {
     print_second();
     print_third();
     print_fourth();
+    print_fifth();
 }

@@ -29,9 +29,9 @@ bodyWords = 1 ∷ 0 ∷ 0 ∷ 0 ∷ 0 ∷ 0 ∷ 0 ∷ 0 ∷ one ∷ zeros (bodyS
 unfoldable pub bodies : List ℕ
 bodies = bodyWords ++ bodyWords ++ zeros (bodiesLength - 2 * bodySize)
 
--- recycle distance 0: no pair is recycled (rule 4)
+-- recycle distance 0: no pair is recycled (rule 4). The matching setting is not named
 unfoldable pub settings : List ℕ
-settings = 0x3c88_8889 ∷ one ∷ 0x3ba3_d70a ∷ 0 ∷ 0x3f7a_e148 ∷ 1 ∷ 0x3f00_0000 ∷ 1 ∷ 0 ∷ 1 ∷ []
+settings = 0x3c88_8889 ∷ one ∷ 0x3ba3_d70a ∷ 0 ∷ 0x3f7a_e148 ∷ 1 ∷ 0x3f00_0000 ∷ 1 ∷ 0 ∷ 1 ∷ 0 ∷ 0 ∷ []
 
 -- that many manifolds, at most one: of one point, 0.1 deep
 unfoldable pub proposals : ℕ → List ℕ

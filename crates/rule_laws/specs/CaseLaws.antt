@@ -19,7 +19,7 @@ use Rattle.rules.specs.Inputs.{Coefficient, Settings}
 use Rattle.rules.specs.Records.{Point, Cache}
 use Rattle.rules.specs.Recycling.{scaledTolerance, scaledRecycle, toleranceFor, radius, leastSquaredDot, squaredMotion, arc, recycles}
 use Rattle.rules.specs.Sides.{Side}
-use Rattle.rules.specs.Matching.{byNumber, anchorsMatch, source, matchedPoint}
+use Rattle.rules.specs.Matching.{byNumber, byPlace, featureRule, anchorsMatch, source, matchedPoint}
 use Rattle.rules.specs.Pruning.{PrunePoint, projected, weight, point1, point2, sideValue, point3, point4, listed, keptBeside, keptFrom, kept}
 
 -- what a case is about
@@ -28,8 +28,8 @@ pub data Case : Type 0 where
   prunes : Vec3 → List PrunePoint → Case
   -- the root of a float, both by their bits
   roots : ℕ → Case
-  -- which old point a new one takes, at that threshold squared, and the impulse that it then has
-  takes : Float → Point → List Point → Case
+  -- which old point a new one takes, by place or by number, at that threshold squared, and the impulse that it then has
+  takes : Bool → Float → Point → List Point → Case
   -- whether a touching pair of unturned bodies at the origin is recycled, by the recycle distance, how far apart the bodies were, and the sweep radius of both
   recycled : ℕ → ℕ → ℕ → Case
   -- whether a point stays, by its penetration, the distance and its normal speed
@@ -70,6 +70,7 @@ settingsWith distance =
       matchContacts = true;
       defaultFriction = average;
       defaultRestitution = average;
+      byPlace = true;
     }
 
 abbrev mark : Bool → ℕ
@@ -96,7 +97,7 @@ moving penetration speed =
 abbrev pub outcome : Case → List ℕ
 outcome (prunes normal ps) = kept normal (length ps) (λ k. getD ps k (record { anchor1 = vec3 nan nan nan; penetration = nan }))
 outcome (roots n) = toBits binary32 (root (bits n)) ∷ []
-outcome (takes square new olds) = listed (source byNumber square olds new) ++ toBits binary32 (matchedPoint byNumber square olds new .warmStartNormal) ∷ []
+outcome (takes place square new olds) = listed (source (featureRule place) square olds new) ++ toBits binary32 (matchedPoint (featureRule place) square olds new .warmStartNormal) ∷ []
 outcome (recycled distance x swept) = mark (recycles (settingsWith distance) true (atRest swept) (atRest swept) (some (cachedAt x))) ∷ []
 outcome (stayed penetration distance speed) = mark (stays one (bits distance) (moving penetration speed)) ∷ []
 
@@ -153,7 +154,7 @@ unnamed x =
 abbrev row : ℕ → Case → List ℕ → Row
 row n c e = record { number = n; case = c; expected = e }
 
--- C1 to C11, in order; beside C6 its neighbour, a recycle distance one place larger.
+-- C1 to C11, in order; beside C6 its neighbour, a recycle distance one place larger. C10 names by number; beside it the same by place, where nothing is taken.
 -- In C5 and C6 one test of rule 4 alone can abandon, since a NaN abandons nothing: in C5 the motion is a NaN, and in C6 the arc, and nothing is turned.
 abbrev pub table : List Row
 table =
@@ -168,10 +169,11 @@ table =
     ∷ row 8 (roots 0x0000_0001) (0x1a35_04f3 ∷ [])
     ∷ row 9 (roots 0x8000_0000) (0x8000_0000 ∷ [])
     ∷ row 9 (roots 0xbf80_0000) (0x7fc0_0000 ∷ [])
-    ∷ row 10 (takes (bits 0x3c23_d70a) (unnamed 0x42c8_0000) (unnamed 0x4348_0000 ∷ unnamed 0xc2c8_0000 ∷ [])) (0 ∷ 0x4348_0000 ∷ [])
+    ∷ row 10 (takes false (bits 0x3c23_d70a) (unnamed 0x42c8_0000) (unnamed 0x4348_0000 ∷ unnamed 0xc2c8_0000 ∷ [])) (0 ∷ 0x4348_0000 ∷ [])
+    ∷ row 10 (takes true (bits 0x3c23_d70a) (unnamed 0x42c8_0000) (unnamed 0x4348_0000 ∷ unnamed 0xc2c8_0000 ∷ [])) (0x42c8_0000 ∷ [])
     ∷ row 11 (stayed 0xbf00_0000 0x3f00_0000 0) (0 ∷ [])
     ∷ []
 
 pub cases-hold : map (λ r. outcome (r .case)) table ≡ map (λ r. r .expected) table
-unfolding recycles scaledTolerance scaledRecycle toleranceFor radius leastSquaredDot squaredMotion arc stays relative axis dot4 times inverse rotate chordLength length3 minimum _+v_ le neg kept keptFrom keptBeside point1 point2 point3 point4 sideValue weight projected leader source matchedPoint first byNumber anchorsMatch root rootOf maximum _-v_ _*v_ dot cross squaredLength squaredDistance reject ofBits toBits lt isNan add sub mul
+unfolding recycles scaledTolerance scaledRecycle toleranceFor radius leastSquaredDot squaredMotion arc stays relative axis dot4 times inverse rotate chordLength length3 minimum _+v_ le neg kept keptFrom keptBeside point1 point2 point3 point4 sideValue weight projected leader source matchedPoint first byNumber byPlace anchorsMatch root rootOf maximum _-v_ _*v_ dot cross squaredLength squaredDistance reject ofBits toBits lt isNan add sub mul
 cases-hold = refl

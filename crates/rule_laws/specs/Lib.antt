@@ -1,5 +1,6 @@
 pub mod NumberLaws
 pub mod MatchingLaws
+pub mod FeatureRuleLaws
 pub mod PruningLaws
 pub mod CaseLaws
 pub mod Stripped

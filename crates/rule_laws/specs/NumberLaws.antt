@@ -60,6 +60,17 @@ module _ (test : ℕ → Bool) where
   pub first-found : (k n : ℕ) → first test k ≡ none → test k ≡ true → k < n → first test n ≡ some k
   first-found k n e f h = stays k (suc k) n (first-here k e f) h
 
+  -- what is found passes
+  passed : (k : ℕ) (b : Bool) (o : Option ℕ) (i : ℕ) → test k ≡ b → (o ≡ some i → test i ≡ true) → else o b k ≡ some i → test i ≡ true
+  passed k b (some j) i e f h = f h
+  passed k true none i e f h = subst (λ (m : ℕ). test m ≡ true) (let z : _≡_ {A = ℕ} k i = cc in z) e
+  passed k false none i e f h = absurd (let z : _≡_ {A = ℕ} 0 1 = cc in omega arith)
+
+  pub first-passes : (n i : ℕ) → first test n ≡ some i → test i ≡ true
+  unfolding first
+  first-passes zero i h = absurd (let z : _≡_ {A = ℕ} 0 1 = cc in omega arith)
+  first-passes (suc k) i h = passed k (test k) (first test k) i refl (first-passes k i) h
+
 -- two tests that agree below n find the same
 pub first-same : (f g : ℕ → Bool) (n : ℕ) → ((k : ℕ) → k < n → f k ≡ g k) → first f n ≡ first g n
 unfolding first

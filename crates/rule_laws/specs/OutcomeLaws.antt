@@ -11,7 +11,7 @@ use Rattle.math.specs.Constants.{zeroF, tenth}
 use Rattle.math.specs.Floats.{_⊗_}
 use Rattle.rules.specs.Filtering.{isEmpty}
 use Rattle.rules.specs.Inputs.{Settings, Collider, Body, ProposedManifold, Inputs}
-use Rattle.rules.specs.Matching.{byNumber, matchAll}
+use Rattle.rules.specs.Matching.{featureRule, matchAll}
 use Rattle.rules.specs.Records.{Manifold, Cache, Pair}
 use Rattle.rules.specs.Recycling.{recycles, recycledManifold}
 use Rattle.rules.specs.Sides.{overlap, interact, Side, sideOf}
@@ -87,8 +87,8 @@ length-matched : (s : Settings) (olds news : List Manifold) → length (matched 
 unfolding matched
 length-matched s olds news = go (s .matchContacts && leb (length news) 4)
   where
-    go : (t : Bool) → length (cond t (map (matchAll byNumber (tenth ⊗ s .lengthUnit) olds) news) news) ≡ length news
-    go true = length-map news (matchAll byNumber (tenth ⊗ s .lengthUnit) olds)
+    go : (t : Bool) → length (cond t (map (matchAll (featureRule (s .byPlace)) (tenth ⊗ s .lengthUnit) olds) news) news) ≡ length news
+    go true = length-map news (matchAll (featureRule (s .byPlace)) (tenth ⊗ s .lengthUnit) olds)
     go false = refl
 
 empty-length : (ms : List Manifold) → not (isEmpty ms) ≡ not (eqb (length ms) 0)

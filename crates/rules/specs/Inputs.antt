@@ -22,6 +22,8 @@ pub record Settings : Type 0 where
   pub matchContacts : Bool
   pub defaultFriction : Coefficient
   pub defaultRestitution : Coefficient
+  -- the matching setting: features are compared by place, else by number
+  pub byPlace : Bool
 
 pub record Collider : Type 0 where
   pub body : Option ℕ

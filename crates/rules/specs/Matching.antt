@@ -1,6 +1,6 @@
 -- `match_contacts`: the specification, 'Matching and pruning', and rule 11. Definitions only.
 use Prim.Native.Nat.{ℕ}
-use mathlib.Core.Bool.{Bool, _&&_, _||_}
+use mathlib.Core.Bool.{Bool, cond, not, _&&_, _||_}
 use mathlib.Core.List.{List, [], _∷_, map}
 use mathlib.Core.Option.{Option, none, some}
 use lib.Dec.{eqb}
@@ -16,19 +16,27 @@ use Rattle.rules.specs.Records.{Point, Manifold}
 abbrev pub FeatureRule : Type 0
 FeatureRule = Point → Point → Bool
 
--- equal straight or crossed, 0 included
-unfoldable pub byNumber : FeatureRule
-byNumber new old =
-    (eqb (new .feature1) (old .feature1) && eqb (new .feature2) (old .feature2)) || (eqb (new .feature2) (old .feature1) && eqb (new .feature1) (old .feature2))
-
 -- a new feature is 0
 abbrev pub unknown : Point → Bool
 unknown new = eqb (new .feature1) 0 || eqb (new .feature2) 0
 
+-- by number: equal straight or crossed, 0 included
+unfoldable pub byNumber : FeatureRule
+byNumber new old =
+    (eqb (new .feature1) (old .feature1) && eqb (new .feature2) (old .feature2)) || (eqb (new .feature2) (old .feature1) && eqb (new .feature1) (old .feature2))
+
+-- by place: compared only if neither of the new point's numbers is 0
+unfoldable pub byPlace : FeatureRule
+byPlace new old = not (unknown new) && byNumber new old
+
+-- the rule that the matching setting says: 0 by number, 1 by place
+abbrev pub featureRule : Bool → FeatureRule
+featureRule place new old = cond place (byPlace new old) (byNumber new old)
+
 abbrev pub close : Float → Vec3 → Vec3 → Bool
 close square a b = lt (squaredDistance a b) square
 
--- close anchors: straight only if a new feature is 0, crossed always
+-- close anchors, under either rule: straight only if a new feature is 0, crossed always
 unfoldable pub anchorsMatch : Float → Point → Point → Bool
 anchorsMatch square new old =
     (unknown new && (close square (new .anchor1) (old .anchor1) && close square (new .anchor2) (old .anchor2))) || (close square (new .anchor1) (old .anchor2) && close square (new .anchor2) (old .anchor1))

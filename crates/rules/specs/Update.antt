@@ -12,7 +12,7 @@ use Rattle.math.specs.Floats.{_⊕_, _⊗_}
 use Rattle.math.specs.Pose.{relative}
 use Rattle.rules.specs.Filtering.{filtered, isEmpty, withoutEmpty}
 use Rattle.rules.specs.Inputs.{Settings, Collider, Body, ProposedManifold, Inputs}
-use Rattle.rules.specs.Matching.{byNumber, matchAll}
+use Rattle.rules.specs.Matching.{featureRule, matchAll}
 use Rattle.rules.specs.Records.{Manifold, Cache, PairFlags, Pair}
 use Rattle.rules.specs.Recycling.{recycles, recycledManifold}
 use Rattle.rules.specs.Sides.{overlap, interact, Side, sideOf}
@@ -114,9 +114,9 @@ enabled c1 c2 a b = (a .present && b .present) && (not (c1 .sensor) && not (c2 .
 unfoldable pub hooked : Bool → Bool → List Manifold → List Manifold
 hooked modify answer ms = cond (modify && not answer) [] ms
 
--- rule 11: with matching on and at most 4 manifolds, each new manifold against every old one in turn, threshold 0.1 × length unit
+-- rule 11: with matching on and at most 4 manifolds, each new manifold against every old one in turn, threshold 0.1 × length unit, by the rule of the matching setting
 unfoldable pub matched : Settings → List Manifold → List Manifold → List Manifold
-matched s olds news = cond (s .matchContacts && leb (length news) 4) (map (matchAll byNumber (tenth ⊗ s .lengthUnit) olds) news) news
+matched s olds news = cond (s .matchContacts && leb (length news) 4) (map (matchAll (featureRule (s .byPlace)) (tenth ⊗ s .lengthUnit) olds) news) news
 
 -- rule 12: new count minus old
 unfoldable pub changeOf : List Manifold → List Manifold → ℤ

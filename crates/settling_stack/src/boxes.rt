@@ -33,6 +33,8 @@ use case_draws::numbers::SETTINGS_CONTACT_TOLERANCE;
 use case_draws::numbers::SETTINGS_FRICTION;
 use case_draws::numbers::SETTINGS_LENGTH_UNIT;
 use case_draws::numbers::SETTINGS_MATCH_CONTACTS;
+use case_draws::numbers::SETTINGS_MATCHING;
+use case_draws::numbers::SETTINGS_MATCHING_VALUE;
 use case_draws::numbers::SETTINGS_RECYCLE_COSINE;
 use case_draws::numbers::SETTINGS_RECYCLE_DISTANCE;
 use case_draws::numbers::SETTINGS_RESTITUTION;
@@ -66,9 +68,15 @@ fn fill_tolerances(settings: &mut [u32]) {
     put(settings, SETTINGS_RECYCLE_COSINE, 0x3f7d_70a4);
 }
 
-// Matching; friction 0.5 by rule 1; restitution 0.1 by rule 2.
-fn fill_defaults(settings: &mut [u32]) {
+// Matching, named by number: the Rust's.
+fn fill_matching(settings: &mut [u32]) {
     put(settings, SETTINGS_MATCH_CONTACTS, 1);
+    put(settings, SETTINGS_MATCHING, 1);
+    put(settings, SETTINGS_MATCHING_VALUE, 0);
+}
+
+// Friction 0.5 by rule 1; restitution 0.1 by rule 2.
+fn fill_defaults(settings: &mut [u32]) {
     put(settings, SETTINGS_FRICTION, 0x3f00_0000);
     put(settings, slot(SETTINGS_FRICTION, 1), 1);
     put(settings, SETTINGS_RESTITUTION, 0x3dcc_cccd);
@@ -77,6 +85,7 @@ fn fill_defaults(settings: &mut [u32]) {
 
 pub fn fill_settings(settings: &mut [u32]) {
     fill_tolerances(settings);
+    fill_matching(settings);
     fill_defaults(settings);
 }
 

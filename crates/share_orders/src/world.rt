@@ -31,6 +31,8 @@ use case_draws::numbers::COLLIDER_UPPER;
 use case_draws::numbers::SETTINGS_FRICTION;
 use case_draws::numbers::SETTINGS_LENGTH;
 use case_draws::numbers::SETTINGS_MATCH_CONTACTS;
+use case_draws::numbers::SETTINGS_MATCHING;
+use case_draws::numbers::SETTINGS_MATCHING_VALUE;
 use case_draws::numbers::SETTINGS_RECYCLE_COSINE;
 use case_draws::numbers::SETTINGS_RESTITUTION;
 use case_draws::numbers::SETTINGS_STEP_TIME;
@@ -104,6 +106,7 @@ fn first_setting(key: u32, j: u32) -> u32 {
     SETTINGS[(draw(key, SETTINGS_STEP_TIME) % 3 * 4 + j % 4) as usize]
 }
 
+// Matching is named in two of three, else behind a mark of 0.
 fn setting_word(key: u32, i: u32) -> u32 {
     match i {
         SETTINGS_STEP_TIME..SETTINGS_RECYCLE_COSINE => first_setting(
@@ -113,6 +116,8 @@ fn setting_word(key: u32, i: u32) -> u32 {
         SETTINGS_RECYCLE_COSINE => 0x3f7d_70a4,
         SETTINGS_MATCH_CONTACTS => all_but_one_in(key, i, 4),
         SETTINGS_FRICTION | SETTINGS_RESTITUTION => coefficient(key, i),
+        SETTINGS_MATCHING => all_but_one_in(key, i, 3),
+        SETTINGS_MATCHING_VALUE => one_in(key, i, 2),
         _ => rule(key, i),
     }
 }

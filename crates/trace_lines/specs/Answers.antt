@@ -2,7 +2,7 @@
 use mathlib.Core.Path.{_≡_}
 use Prim.Native.Nat.{ℕ, _+_, _≤_, _<_}
 use mathlib.Core.Bool.{Bool, true, false}
-use mathlib.Core.List.{List}
+use mathlib.Core.List.{List, [], _∷_}
 use mathlib.Core.Option.{Option, none, some}
 use lib.ListN.{length, getD, drop}
 use Rattle.rows.specs.Rows.{put}
@@ -43,6 +43,10 @@ abbrev pub FieldReadAt : Kind → List ℕ → ℕ → FieldRead → Type 0
 FieldReadAt k xs at (FieldIs f) = FieldAt k xs at f
 FieldReadAt k xs at NoField = readKind k (drop at xs) ≡ none
 
+-- ---- what a dash for one field reads to: a mark, and 0
+abbrev pub zeroBehind : ℕ → Fields
+zeroBehind mark = record { words = mark ∷ 0 ∷ []; fits = true }
+
 -- ---- items: their words stand in the row from word n on
 pub record ExtentAt (reads : List ℕ → Option (Taken Fields)) (xs : List ℕ) (at n : ℕ) (before after : List ℕ) (e : Extent) : Type 0 where
   pub fields : Fields
@@ -60,7 +64,7 @@ ItemsReadAt reads xs at n before after NoItems = reads (drop at xs) ≡ none
 -- ---- a record's items
 pub record ShapeIs (letter : ℕ) (s : Shape) : Type 0 where
   pub items : shape letter ≡ some (itemsFrom (s .count) (s .start))
-  pub inside : s .start + s .count ≤ 76
+  pub inside : s .start + s .count ≤ 77
   pub few : s .count ≤ 22
 
 abbrev pub ShapeReadAt : ℕ → ShapeRead → Type 0

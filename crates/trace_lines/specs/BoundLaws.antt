@@ -8,7 +8,7 @@ use mathlib.Core.Option.{Option, none, some}
 use Rattle.rows.specs.Slots.{AllBelow}
 use Rattle.text.specs.Text.{Taken, after, expect, lineFeed, word, decimal}
 use Rattle.text.specs.BoundLaws.{Under, under-expect, word-under, decimal-under}
-use Rattle.trace_rules.specs.Fields.{Kind, float, number, collider, body, mark, rule, readKind, Item, plain, optional, Fields, joinedTaken, oneField, readKinds, present, zerosFor, dashRead, absentOr, readItem, readItems, shape, Line, readLine}
+use Rattle.trace_rules.specs.Fields.{Kind, float, number, collider, body, mark, rule, readKind, Item, plain, optional, setting, Fields, joinedTaken, oneField, readKinds, present, zerosFor, absent, unsaid, dashRead, endRead, defaultOr, dashOr, readItem, readItems, shape, Line, readLine}
 
 kind-under : (k : Kind) (xs : List ℕ) → Under 4294967296 (readKind k xs)
 unfolding readKind
@@ -55,14 +55,21 @@ unfolding zerosFor
 zeros-words [] = tt
 zeros-words (k ∷ ks) = (omega arith, zeros-words ks)
 
+default-read : (default : Fields) (d : Option (List ℕ)) (o : Option (Taken Fields)) → Words (default .words) → Read o → Read (defaultOr default d o)
+default-read default none o u r = r
+default-read default (some rest) o u r = u
+
+dash-read : (default : Fields) (ks : List Kind) (xs : List ℕ) → Words (default .words) → Read (dashOr default ks xs)
+dash-read default ks xs u =
+    default-read default (dashRead xs) (after (readKinds ks xs) (joinedTaken present)) u (joined-read present (readKinds ks xs) (omega arith, tt) (kinds-read ks xs))
+
 item-read : (i : Item) (xs : List ℕ) → Read (readItem i xs)
 unfolding readItem
 item-read (plain k) xs = kinds-read (k ∷ []) xs
-item-read (optional ks) xs = either (dashRead xs) (readKinds ks xs) (kinds-read ks xs)
-  where
-    either : (d : Option (List ℕ)) (o : Option (Taken Fields)) → Read o → Read (absentOr ks d (after o (joinedTaken present)))
-    either none o r = joined-read present o (omega arith, tt) r
-    either (some rest) o r = (omega arith, zeros-words ks)
+item-read (optional ks) xs = dash-read (absent ks) ks xs (omega arith, zeros-words ks)
+item-read setting xs =
+    let u : Words (unsaid .words) = (omega arith, (omega arith, tt)) in
+    default-read unsaid (endRead xs) (dashOr unsaid (mark ∷ []) xs) u (dash-read unsaid (mark ∷ []) xs u)
 
 items-read : (is : List Item) (xs : List ℕ) → Read (readItems is xs)
 unfolding readItems

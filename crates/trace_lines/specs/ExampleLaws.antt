@@ -6,7 +6,7 @@ use mathlib.Core.List.{List, [], _∷_, _++_, map}
 use mathlib.Core.Option.{Option, none, some}
 use lib.ListN.{take}
 use Rattle.text.specs.Text.{Taken, expect, hexDigit, digits, word, decimalFrom, decimal}
-use Rattle.trace_rules.specs.Fields.{kindFits, readKind, readKinds, zerosFor, dashRead, readItem, readItems, shape, Line, readLine}
+use Rattle.trace_rules.specs.Fields.{kindFits, readKind, readKinds, zerosFor, dashRead, endRead, readItem, readItems, shape, Line, readLine}
 
 -- ---- fields: a tab and 0, 1, a dash, the bits of 0.0 and of 1.0
 
@@ -50,13 +50,31 @@ pub addition-line : readLine (65 ∷ n0 ++ n1 ++ n1 ++ d ++ n1 ++ n0 ++ f1 ++ fe
 unfolding expect hexDigit digits word decimalFrom decimal kindFits readKind readKinds zerosFor dashRead readItem readItems shape readLine
 addition-line = refl
 
--- T but for its end
+-- T up to its last rule, and up to its setting
 abbrev settings : List ℕ
 settings = 84 ∷ f0 ++ f1 ++ vector ++ n1 ++ f1 ++ n1 ++ f0
 
-pub settings-line : readLine (settings ++ n1 ++ feed) ≡ whole 84 (0 ∷ 0x3f80_0000 ∷ 0 ∷ 0x3f80_0000 ∷ 0 ∷ 1 ∷ 0x3f80_0000 ∷ 1 ∷ 0 ∷ 1 ∷ []) true
-unfolding expect hexDigit digits word decimalFrom decimal kindFits readKind readKinds zerosFor dashRead readItem readItems shape readLine
-settings-line = refl
+abbrev fixed : List ℕ
+fixed = settings ++ n1
+
+abbrev settingsWith : ℕ → Option (Taken Line)
+settingsWith matching = whole 84 (0 ∷ 0x3f80_0000 ∷ 0 ∷ 0x3f80_0000 ∷ 0 ∷ 1 ∷ 0x3f80_0000 ∷ 1 ∷ 0 ∷ 1 ∷ 1 ∷ matching ∷ []) true
+
+-- missing, a dash, 0, 000: the setting is 0
+unfoldable pub by-number : List (List ℕ)
+by-number = (fixed ++ feed) ∷ (fixed ++ d ++ feed) ∷ (fixed ++ n0 ++ feed) ∷ (fixed ++ (9 ∷ 48 ∷ 48 ∷ 48 ∷ []) ++ feed) ∷ []
+
+pub by-number-lines : map readLine by-number ≡ map (λ xs. settingsWith 0) by-number
+unfolding by-number expect hexDigit digits word decimalFrom decimal kindFits readKind readKinds zerosFor dashRead endRead readItem readItems shape readLine
+by-number-lines = refl
+
+-- 1, 001
+unfoldable pub by-place : List (List ℕ)
+by-place = (fixed ++ n1 ++ feed) ∷ (fixed ++ (9 ∷ 48 ∷ 48 ∷ 49 ∷ []) ++ feed) ∷ []
+
+pub by-place-lines : map readLine by-place ≡ map (λ xs. settingsWith 1) by-place
+unfolding by-place expect hexDigit digits word decimalFrom decimal kindFits readKind readKinds zerosFor dashRead endRead readItem readItems shape readLine
+by-place-lines = refl
 
 -- a friction with its rule, no restitution, a margin
 pub collider-line : readLine (67 ∷ n1 ++ n0 ++ vector ++ vector ++ vector ++ n1 ++ largest ++ f1 ++ n1 ++ d ++ f0 ++ n0 ++ feed)
@@ -93,24 +111,27 @@ go-line = refl
 
 -- ---- a number outside its range is readable
 
--- a collider that is 256; a rule that is 0, or 6; the largest number as a mark
+-- a collider that is 256; a rule that is 0, or 6; the largest number as a mark; a setting that is 2, 007, the largest number
 unfoldable pub outside : List (List ℕ)
 outside =
-    (72 ∷ (9 ∷ 50 ∷ 53 ∷ 54 ∷ []) ++ n1 ++ n0 ++ feed) ∷ (settings ++ n0 ++ feed) ∷ (settings ++ 9 ∷ 54 ∷ feed) ∷ (72 ∷ n0 ++ n1 ++ largest ++ feed) ∷ []
+    (72 ∷ (9 ∷ 50 ∷ 53 ∷ 54 ∷ []) ++ n1 ++ n0 ++ feed) ∷ (settings ++ n0 ++ feed) ∷ (settings ++ 9 ∷ 54 ∷ feed) ∷ (72 ∷ n0 ++ n1 ++ largest ++ feed)
+    ∷ (fixed ++ 9 ∷ 50 ∷ feed) ∷ (fixed ++ 9 ∷ 48 ∷ 48 ∷ 55 ∷ feed) ∷ (fixed ++ largest ++ feed) ∷ []
 
 abbrev fitsOf : Option (Taken Line) → Option Bool
 fitsOf none = none
 fitsOf (some t) = some (t .value .fits)
 
 pub outside-lines : map (λ xs. fitsOf (readLine xs)) outside ≡ map (λ xs. some false) outside
-unfolding outside expect hexDigit digits word decimalFrom decimal kindFits readKind readKinds zerosFor dashRead readItem readItems shape readLine
+unfolding outside expect hexDigit digits word decimalFrom decimal kindFits readKind readKinds zerosFor dashRead endRead readItem readItems shape readLine
 outside-lines = refl
 
 -- ---- what is unreadable
 
 -- nothing; an empty line; no line feed; a carriage return before it; a space before it; another letter; a tab after the last field; two tabs;
 -- a field too few, and one too many; 4294967296, and with zeros in front; a sign; a dash for a collider, for a mark, for a float; no digit;
--- seven hexadecimal digits, nine, and a letter past F; a dash each for a friction and its rule; a rule missing; T with nine fields, and with eleven
+-- seven hexadecimal digits, nine, and a letter past F; a dash each for a friction and its rule; a rule missing; T with nine fields, and with twelve;
+-- T with a tab after its tenth field, after its setting, after a dash for it; two dashes; 4294967296 for the setting; a digit behind the dash; no line feed
+-- where the setting is missing, and behind a dash
 unfoldable pub unreadable : List (List ℕ)
 unreadable =
     [] ∷ feed ∷ (72 ∷ n0 ++ n1 ++ n0) ∷ (72 ∷ n0 ++ n1 ++ n0 ++ 13 ∷ feed) ∷ (72 ∷ n0 ++ n1 ++ n0 ++ 32 ∷ feed) ∷ (104 ∷ n0 ++ n1 ++ n0 ++ feed)
@@ -119,8 +140,10 @@ unreadable =
     ∷ (72 ∷ (9 ∷ 45 ∷ 51 ∷ []) ++ n1 ++ n0 ++ feed) ∷ (72 ∷ d ++ n1 ++ n0 ++ feed) ∷ (72 ∷ n0 ++ n1 ++ d ++ feed) ∷ (77 ∷ n0 ++ n1 ++ f0 ++ f0 ++ d ++ feed)
     ∷ (72 ∷ 9 ∷ n1 ++ n0 ++ feed) ∷ (77 ∷ n0 ++ n1 ++ f0 ++ f0 ++ take 8 f0 ++ feed) ∷ (77 ∷ n0 ++ n1 ++ f0 ++ f0 ++ f0 ++ 48 ∷ feed)
     ∷ (77 ∷ n0 ++ n1 ++ f0 ++ f0 ++ take 8 f0 ++ 71 ∷ feed) ∷ (67 ∷ n1 ++ n0 ++ vector ++ vector ++ vector ++ n1 ++ n1 ++ d ++ d ++ d ++ f0 ++ n0 ++ feed)
-    ∷ (67 ∷ n1 ++ n0 ++ vector ++ vector ++ vector ++ n1 ++ n1 ++ f0 ++ d ++ f0 ++ n0 ++ feed) ∷ (settings ++ feed) ∷ (settings ++ n1 ++ n0 ++ feed) ∷ []
+    ∷ (67 ∷ n1 ++ n0 ++ vector ++ vector ++ vector ++ n1 ++ n1 ++ f0 ++ d ++ f0 ++ n0 ++ feed) ∷ (settings ++ feed) ∷ (fixed ++ n0 ++ n0 ++ feed)
+    ∷ (fixed ++ 9 ∷ feed) ∷ (fixed ++ n0 ++ 9 ∷ feed) ∷ (fixed ++ d ++ 9 ∷ feed) ∷ (fixed ++ d ++ d ++ feed) ∷ (fixed ++ too-large ++ feed)
+    ∷ (fixed ++ d ++ 49 ∷ feed) ∷ fixed ∷ (fixed ++ d) ∷ []
 
 pub unreadable-lines : map readLine unreadable ≡ map (λ xs. none) unreadable
-unfolding unreadable expect hexDigit digits word decimalFrom decimal kindFits readKind readKinds zerosFor dashRead readItem readItems shape readLine
+unfolding unreadable expect hexDigit digits word decimalFrom decimal kindFits readKind readKinds zerosFor dashRead endRead readItem readItems shape readLine
 unreadable-lines = refl

@@ -5,7 +5,7 @@ use native.Mathlib.Nat.{zero-add}
 use native.Mathlib.Numerals.{add-one}
 use native.Mathlib.Omega.{arith}
 use mathlib.Core.Bool.{Bool, true, false, _&&_}
-use mathlib.Core.List.{List, _∷_, append-assoc, append-nil}
+use mathlib.Core.List.{List, [], _∷_, _++_, append-assoc, append-nil}
 use mathlib.Core.Option.{Option, none, some}
 use lib.ListN.{length, getD, drop, length-append, drop-of-length-le}
 use lib.Seq.{drop-cons}
@@ -38,6 +38,22 @@ after-joined a b (some t) = ap (λ (f : Fields). some (record { value = f; rest 
 after-none : (o : Option (Taken Fields)) → after o (joinedTaken noFields) ≡ o
 after-none none = refl
 after-none (some t) = refl
+
+pub items-append : (is js : List Item) (xs : List ℕ) → readItems (is ++ js) xs ≡ after (readItems is xs) (λ t. after (readItems js (t .rest)) (joinedTaken (t .value)))
+unfolding readItems
+items-append [] js xs = sym (after-none (readItems js xs))
+items-append (i ∷ is) js xs = first (readItem i xs) (items-append is js)
+  where
+    others : (a : Fields) (o : Option (Taken Fields))
+        → after (after o (λ t. after (readItems js (t .rest)) (joinedTaken (t .value)))) (joinedTaken a) ≡ after (after o (joinedTaken a)) (λ t. after (readItems js (t .rest)) (joinedTaken (t .value)))
+    others a none = refl
+    others a (some t) = after-joined a (t .value) (readItems js (t .rest))
+
+    first : (o : Option (Taken Fields)) → ((ys : List ℕ) → readItems (is ++ js) ys ≡ after (readItems is ys) (λ t. after (readItems js (t .rest)) (joinedTaken (t .value))))
+        → after o (λ t. after (readItems (is ++ js) (t .rest)) (joinedTaken (t .value)))
+        ≡ after (after o (λ t. after (readItems is (t .rest)) (joinedTaken (t .value)))) (λ t. after (readItems js (t .rest)) (joinedTaken (t .value)))
+    first none h = refl
+    first (some t) h = ap (λ (o : Option (Taken Fields)). after o (joinedTaken (t .value))) (h (t .rest)) ∙ others (t .value) (readItems is (t .rest))
 
 -- ---- k items are read: their fields, and what is left to read
 

@@ -10,31 +10,31 @@ pub addition-shape : shape additionLetter ≡ some (itemsFrom 7 0)
 unfolding shape itemsFrom codes itemOf kindOf
 addition-shape = refl
 
-pub settings-shape : shape settingsLetter ≡ some (itemsFrom 10 7)
+pub settings-shape : shape settingsLetter ≡ some (itemsFrom 11 7)
 unfolding shape itemsFrom codes itemOf kindOf
 settings-shape = refl
 
-pub collider-shape : shape colliderLetter ≡ some (itemsFrom 17 17)
+pub collider-shape : shape colliderLetter ≡ some (itemsFrom 17 18)
 unfolding shape itemsFrom codes itemOf kindOf
 collider-shape = refl
 
-pub body-shape : shape bodyLetter ≡ some (itemsFrom 22 34)
+pub body-shape : shape bodyLetter ≡ some (itemsFrom 22 35)
 unfolding shape itemsFrom codes itemOf kindOf
 body-shape = refl
 
-pub hook-shape : shape hookLetter ≡ some (itemsFrom 3 56)
+pub hook-shape : shape hookLetter ≡ some (itemsFrom 3 57)
 unfolding shape itemsFrom codes itemOf kindOf
 hook-shape = refl
 
-pub manifold-shape : shape manifoldLetter ≡ some (itemsFrom 5 59)
+pub manifold-shape : shape manifoldLetter ≡ some (itemsFrom 5 60)
 unfolding shape itemsFrom codes itemOf kindOf
 manifold-shape = refl
 
-pub point-shape : shape pointLetter ≡ some (itemsFrom 12 64)
+pub point-shape : shape pointLetter ≡ some (itemsFrom 12 65)
 unfolding shape itemsFrom codes itemOf kindOf
 point-shape = refl
 
-pub go-shape : shape goLetter ≡ some (itemsFrom 0 76)
+pub go-shape : shape goLetter ≡ some (itemsFrom 0 77)
 unfolding shape itemsFrom
 go-shape = refl
 

@@ -13,7 +13,7 @@ use Rattle.layout.specs.Proposal.{proposedPointSize}
 use Rattle.layout.specs.Request.{requestLength}
 use Rattle.layout.specs.Settings.{settingsLength}
 use Rattle.text.specs.Text.{Taken, after, expect, lineFeed}
-use Rattle.trace_rules.specs.Fields.{Kind, readKind, Item, plain, optional, float, body, coefficient, Fields, joinedTaken, oneField, readKinds, present, zerosFor, dashRead, absentOr, readItem, readItems, shape, additionShape, settingsShape, colliderShape, bodyShape, hookShape, manifoldShape, pointShape, additionLetter, settingsLetter, colliderLetter, bodyLetter, hookLetter, manifoldLetter, pointLetter, goLetter, Line, readLine}
+use Rattle.trace_rules.specs.Fields.{Kind, readKind, Item, plain, optional, setting, float, body, mark, coefficient, Fields, joinedTaken, oneField, readKinds, present, zerosFor, absent, unsaid, dashRead, endRead, defaultOr, dashOr, readItem, readItems, shape, additionShape, settingsShape, colliderShape, bodyShape, hookShape, manifoldShape, pointShape, additionLetter, settingsLetter, colliderLetter, bodyLetter, hookLetter, manifoldLetter, pointLetter, goLetter, Line, readLine}
 use Rattle.trace_lines.specs.Codes.{kindOf, itemOf}
 use Rattle.trace_lines.specs.Widths.{itemWidth, itemsWidth, widthOf}
 
@@ -41,20 +41,25 @@ unfolding zerosFor
 zeros-sized [] = refl
 zeros-sized (k ∷ ks) = ap suc (zeros-sized ks)
 
-pub item-sized : (i : Item) (xs : List ℕ) → Sized (itemWidth i) (readItem i xs)
-unfolding readItem
-item-sized (plain k) xs = kinds-sized (k ∷ []) xs
-item-sized (optional ks) xs = either (dashRead xs) (readKinds ks xs) (kinds-sized ks xs)
+default-sized : (n : ℕ) (default : Fields) (d : Option (List ℕ)) (o : Option (Taken Fields)) → length (default .words) ≡ n → Sized n o → Sized n (defaultOr default d o)
+default-sized n default none o e s = s
+default-sized n default (some rest) o e s = e
+
+dash-sized : (default : Fields) (ks : List Kind) (xs : List ℕ) → length (default .words) ≡ suc (length ks) → Sized (suc (length ks)) (dashOr default ks xs)
+dash-sized default ks xs e =
+    default-sized (suc (length ks)) default (dashRead xs) (after (readKinds ks xs) (joinedTaken present)) e (marked (readKinds ks xs) (kinds-sized ks xs))
   where
     marked : (o : Option (Taken Fields)) → Sized (length ks) o → Sized (suc (length ks)) (after o (joinedTaken present))
     marked none s = tt
     marked (some t) s = ap suc s
 
-    either : (d : Option (List ℕ)) (o : Option (Taken Fields)) → Sized (length ks) o → Sized (suc (length ks)) (absentOr ks d (after o (joinedTaken present)))
-    either none o s = marked o s
-    either (some rest) o s = ap suc (zeros-sized ks)
+pub item-sized : (i : Item) (xs : List ℕ) → Sized (itemWidth i) (readItem i xs)
+unfolding readItem
+item-sized (plain k) xs = kinds-sized (k ∷ []) xs
+item-sized (optional ks) xs = dash-sized (absent ks) ks xs (ap suc (zeros-sized ks))
+item-sized setting xs = default-sized 2 unsaid (endRead xs) (dashOr unsaid (mark ∷ []) xs) refl (dash-sized unsaid (mark ∷ []) xs refl)
 
-items-sized : (is : List Item) (xs : List ℕ) → Sized (itemsWidth is) (readItems is xs)
+pub items-sized : (is : List Item) (xs : List ℕ) → Sized (itemsWidth is) (readItems is xs)
 unfolding readItems itemsWidth
 items-sized [] xs = refl
 items-sized (i ∷ is) xs = first-sized (readItem i xs) (item-sized i xs) (items-sized is)
@@ -122,13 +127,14 @@ line-width xs t e = subst LineSized e (line-sized xs)
 
 item-narrow : (code : ℕ) → itemWidth (itemOf code) ≤ 3
 unfolding itemOf
-item-narrow code = narrow (eqb code 66) (eqb code 70) (eqb code 82)
+item-narrow code = narrow (eqb code 66) (eqb code 70) (eqb code 82) (eqb code 83)
   where
-    narrow : (b f r : Bool) → itemWidth (cond b (optional (body ∷ [])) (cond f (optional (float ∷ [])) (cond r (optional coefficient) (plain (kindOf code))))) ≤ 3
-    narrow true f r = omega arith
-    narrow false true r = omega arith
-    narrow false false true = omega arith
-    narrow false false false = omega arith
+    narrow : (b f r s : Bool) → itemWidth (cond b (optional (body ∷ [])) (cond f (optional (float ∷ [])) (cond r (optional coefficient) (cond s setting (plain (kindOf code)))))) ≤ 3
+    narrow true f r s = omega arith
+    narrow false true r s = omega arith
+    narrow false false true s = omega arith
+    narrow false false false true = omega arith
+    narrow false false false false = omega arith
 
 pub words-few : (code : ℕ) (xs : List ℕ) (t : Taken Fields) → readItem (itemOf code) xs ≡ some t → length (t .value .words) ≤ 3
 words-few code xs t e =

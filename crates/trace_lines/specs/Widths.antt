@@ -9,11 +9,12 @@ use Rattle.layout.specs.Collider.{colliderSize}
 use Rattle.layout.specs.Proposal.{proposedPointSize}
 use Rattle.layout.specs.Request.{requestLength}
 use Rattle.layout.specs.Settings.{settingsLength}
-use Rattle.trace_rules.specs.Fields.{Item, plain, optional, additionLetter, settingsLetter, colliderLetter, bodyLetter, hookLetter, manifoldLetter, pointLetter}
+use Rattle.trace_rules.specs.Fields.{Item, plain, optional, setting, additionLetter, settingsLetter, colliderLetter, bodyLetter, hookLetter, manifoldLetter, pointLetter}
 
 abbrev pub itemWidth : Item → ℕ
 itemWidth (plain k) = 1
 itemWidth (optional ks) = suc (length ks)
+itemWidth setting = 2
 
 unfoldable pub itemsWidth : List Item → ℕ
 itemsWidth [] = 0

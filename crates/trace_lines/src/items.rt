@@ -1,14 +1,15 @@
-// One value of a record: a field, or fields that are present together; its words go to the row.
+// One value of a record: a field, fields that are present together, or a setting; its words go to the row.
 use crate::fields::FieldRead;
+use crate::fields::byte_is;
 use crate::fields::dash_at;
 use crate::fields::read_kind;
 ghost use mathlib.Core.Path.{_≡_};
 ghost use mathlib.Core.List.{[], _∷_};
 ghost use Prim.Native.Nat.{_≤_};
 ghost use Rattle.rows.specs.Rows.{put};
-ghost use Rattle.trace_rules.specs.Fields.{plain, optional, coefficient, readItem};
+ghost use Rattle.trace_rules.specs.Fields.{plain, optional, setting, coefficient, dashOr, readItem};
 ghost use Rattle.trace_lines.specs.Codes.{kindOf, itemOf};
-ghost use Rattle.trace_lines.specs.Answers.{ItemsReadAt};
+ghost use Rattle.trace_lines.specs.Answers.{zeroBehind, ItemsReadAt};
 
 // The place after what was read, the words in the row, and whether all numbers are in their ranges.
 pub struct Extent {
@@ -62,13 +63,20 @@ fn read_plain(text: &[u8], at: usize, kind: u8, words: &mut [u32], n: usize) -> 
     })
 }
 
-// A mark and one word.
-fn read_optional(text: &[u8], at: usize, kind: u8, words: &mut [u32], n: usize) -> ItemsRead
+// A mark and one word: 1 and the field, or, for a dash, the mark given and 0.
+fn read_optional(
+    text: &[u8],
+    at: usize,
+    kind: u8,
+    mark: u32,
+    words: &mut [u32],
+    n: usize,
+) -> ItemsRead
     requires { ⌜ n ≤ 100 ⌝ }
-    ensures { λ r. ⌜ ItemsReadAt (readItem (optional (kindOf kind ∷ []))) (now (text .entry)) at n (now (words .entry)) (now (words .exit)) r ⌝ }
+    ensures { λ r. ⌜ ItemsReadAt (dashOr (zeroBehind mark) (kindOf kind ∷ [])) (now (text .entry)) at n (now (words .entry)) (now (words .exit)) r ⌝ }
 {
     if dash_at(text, at) {
-        store_pair(words, n, 0, 0);
+        store_pair(words, n, mark, 0);
         return ItemsRead::ItemsAre(Extent {
             next: at + 2,
             count: n + 2,
@@ -113,14 +121,31 @@ fn read_coefficient(text: &[u8], at: usize, words: &mut [u32], n: usize) -> Item
     })
 }
 
+// A mark 1 and the setting: 0 for a dash, and where the line ends before it.
+fn read_setting(text: &[u8], at: usize, words: &mut [u32], n: usize) -> ItemsRead
+    requires { ⌜ n ≤ 100 ⌝ }
+    ensures { λ r. ⌜ ItemsReadAt (readItem setting) (now (text .entry)) at n (now (words .entry)) (now (words .exit)) r ⌝ }
+{
+    if byte_is(text, at, b'\n') {
+        store_pair(words, n, 1, 0);
+        return ItemsRead::ItemsAre(Extent {
+            next: at,
+            count: n + 2,
+            fits: true,
+        });
+    }
+    read_optional(text, at, b'm', 1, words, n)
+}
+
 pub fn read_item(text: &[u8], at: usize, code: u8, words: &mut [u32], n: usize) -> ItemsRead
     requires { ⌜ n ≤ 100 ⌝ }
     ensures { λ r. ⌜ ItemsReadAt (readItem (itemOf code)) (now (text .entry)) at n (now (words .entry)) (now (words .exit)) r ⌝ }
 {
     match code {
-        b'B' => read_optional(text, at, b'b', words, n),
-        b'F' => read_optional(text, at, b'f', words, n),
+        b'B' => read_optional(text, at, b'b', 0, words, n),
+        b'F' => read_optional(text, at, b'f', 0, words, n),
         b'R' => read_coefficient(text, at, words, n),
+        b'S' => read_setting(text, at, words, n),
         _ => read_plain(text, at, code, words, n),
     }
 }

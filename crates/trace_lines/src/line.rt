@@ -31,7 +31,7 @@ pub enum LineRead {
 
 // The items of the table from start on.
 fn read_items(text: &[u8], at: usize, start: usize, count: usize, words: &mut [u32]) -> ItemsRead
-    requires { ⌜ (at ≤ length (now text)) × (start + count ≤ 76) × (count ≤ 22) ⌝ }
+    requires { ⌜ (at ≤ length (now text)) × (start + count ≤ 77) × (count ≤ 22) ⌝ }
     ensures { λ r. ⌜ ItemsReadAt (readItems (itemsFrom count start)) (now (text .entry)) at 0 (now (words .entry)) (now (words .exit)) r ⌝ }
 {
     let mut next = at;

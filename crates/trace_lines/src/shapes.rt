@@ -1,12 +1,12 @@
-// The records' items in one table, a letter for each: f float, n number, c collider, b body, m mark, r rule, and where a dash may stand for it B body, F float, R coefficient and rule.
+// The records' items in one table, a letter for each: f float, n number, c collider, b body, m mark, r rule, where a dash may stand for it B body, F float, R coefficient and rule, and S setting.
 ghost use mathlib.Core.Path.{_≡_};
 ghost use Prim.Native.Nat.{_<_};
 ghost use lib.ListN.{getD};
 ghost use Rattle.trace_lines.specs.Codes.{codes};
 ghost use Rattle.trace_lines.specs.Answers.{ShapeReadAt};
 
-const CODES: [u8; 76] =
-    *b"ccBBmmffffffmfrfrcBfffffffffnnRRFmbmffffffffffffffffRFFfccmccfffffffffffffnn";
+const CODES: [u8; 77] =
+    *b"ccBBmmffffffmfrfrScBfffffffffnnRRFmbmffffffffffffffffRFFfccmccfffffffffffffnn";
 
 // Where a record's items stand in the table.
 pub struct Shape {
@@ -20,7 +20,7 @@ pub enum ShapeRead {
 }
 
 pub fn code_at(i: usize) -> u8
-    requires { ⌜ i < 76 ⌝ }
+    requires { ⌜ i < 77 ⌝ }
     ensures { λ r. ⌜ r ≡ getD codes i 0 ⌝ }
 {
     CODES[i]
@@ -38,13 +38,13 @@ pub fn shape_of(letter: u8) -> ShapeRead
 {
     match letter {
         b'A' => shaped(0, 7),
-        b'T' => shaped(7, 10),
-        b'C' => shaped(17, 17),
-        b'B' => shaped(34, 22),
-        b'H' => shaped(56, 3),
-        b'M' => shaped(59, 5),
-        b'P' => shaped(64, 12),
-        b'G' => shaped(76, 0),
+        b'T' => shaped(7, 11),
+        b'C' => shaped(18, 17),
+        b'B' => shaped(35, 22),
+        b'H' => shaped(57, 3),
+        b'M' => shaped(60, 5),
+        b'P' => shaped(65, 12),
+        b'G' => shaped(77, 0),
         _ => ShapeRead::NoShape,
     }
 }

@@ -88,33 +88,38 @@ own-points trace xs after rest e n = points-before false after rest (points-afte
 
 -- ---- words
 
-abbrev AllWide : List Line → Type 0
-AllWide [] = Unit {0}
-AllWide (l ∷ ls) = (length (l .words) ≡ widthOf (l .letter)) × AllWide ls
+-- what holds of a line that can be read holds of every line of a trace
+module _ (P : Line → Type 0) (p : (xs : List ℕ) (t : Taken Line) → readLine xs ≡ some t → P (t .value)) where
+  abbrev All : List Line → Type 0
+  All [] = Unit {0}
+  All (l ∷ ls) = P l × All ls
 
-lines-wide : (most : ℕ) (c : Context) (xs : List ℕ) → AllWide (readLines most c xs .lines)
-unfolding readLines atEnd
-lines-wide zero c xs = tt
-lines-wide (suc most) c [] = tt
-lines-wide (suc most) c (x ∷ xs) = read (readLine (x ∷ xs)) refl (lines-wide most)
-  where
-    followed : (t : Taken Line) (o : Option Context) → length (t .value .words) ≡ widthOf (t .value .letter) → ((d : Context) (ys : List ℕ) → AllWide (readLines most d ys .lines))
-        → AllWide (orUnreadable o (λ d. begins (t .value) (readLines most d (t .rest))) .lines)
-    followed t none e h = tt
-    followed t (some d) e h = (e, h d (t .rest))
+  lines-all : (most : ℕ) (c : Context) (xs : List ℕ) → All (readLines most c xs .lines)
+  unfolding readLines atEnd
+  lines-all zero c xs = tt
+  lines-all (suc most) c [] = tt
+  lines-all (suc most) c (x ∷ xs) = read (readLine (x ∷ xs)) refl (lines-all most)
+    where
+      followed : (t : Taken Line) (o : Option Context) → P (t .value) → ((d : Context) (ys : List ℕ) → All (readLines most d ys .lines))
+          → All (orUnreadable o (λ d. begins (t .value) (readLines most d (t .rest))) .lines)
+      followed t none e h = tt
+      followed t (some d) e h = (e, h d (t .rest))
 
-    read : (o : Option (Taken Line)) → readLine (x ∷ xs) ≡ o → ((d : Context) (ys : List ℕ) → AllWide (readLines most d ys .lines))
-        → AllWide (orUnreadable o (λ t. orUnreadable (follow c (t .value)) (λ d. begins (t .value) (readLines most d (t .rest)))) .lines)
-    read none e h = tt
-    read (some t) e h = followed t (follow c (t .value)) (line-width (x ∷ xs) t e) h
+      read : (o : Option (Taken Line)) → readLine (x ∷ xs) ≡ o → ((d : Context) (ys : List ℕ) → All (readLines most d ys .lines))
+          → All (orUnreadable o (λ t. orUnreadable (follow c (t .value)) (λ d. begins (t .value) (readLines most d (t .rest)))) .lines)
+      read none e h = tt
+      read (some t) e h = followed t (follow c (t .value)) (p (x ∷ xs) t e) h
 
-wide-at : (xs : List Line) (l : Line) (rest : List Line) → AllWide (xs ++ l ∷ rest) → length (l .words) ≡ widthOf (l .letter)
-wide-at [] l rest w = w .0
-wide-at (x ∷ xs) l rest w = wide-at xs l rest (w .1)
+  all-at : (xs : List Line) (l : Line) (rest : List Line) → All (xs ++ l ∷ rest) → P l
+  all-at [] l rest w = w .0
+  all-at (x ∷ xs) l rest w = all-at xs l rest (w .1)
+
+  pub readable-line : (trace : List ℕ) (xs : List Line) (l : Line) (rest : List Line) → reading trace .lines ≡ xs ++ l ∷ rest → P l
+  unfolding reading
+  readable-line trace xs l rest e = all-at xs l rest (subst All e (lines-all (length trace) beginning trace))
 
 pub readable-width : (trace : List ℕ) (xs : List Line) (l : Line) (rest : List Line) → reading trace .lines ≡ xs ++ l ∷ rest → length (l .words) ≡ widthOf (l .letter)
-unfolding reading
-readable-width trace xs l rest e = wide-at xs l rest (subst AllWide e (lines-wide (length trace) beginning trace))
+readable-width = readable-line (λ l. length (l .words) ≡ widthOf (l .letter)) line-width
 
 -- two lines of one letter
 pub readable-both : (letter : ℕ) (trace : List ℕ) (xs : List Line) (l : Line) (between : List Line) (m : Line) (rest : List Line) → reading trace .lines ≡ xs ++ l ∷ between ++ m ∷ rest

@@ -35,10 +35,11 @@ readKind body xs = expect tab decimal xs
 readKind mark xs = expect tab decimal xs
 readKind rule xs = expect tab decimal xs
 
--- ---- one value of a record: a field, or fields that are present together, with a dash where they are absent
+-- ---- one value of a record: a field; fields that are present together, with a dash where they are absent; a setting, which is a mark, or a dash, or missing
 pub data Item : Type 0 where
   plain : Kind → Item
   optional : List Kind → Item
+  setting : Item
 
 -- the words that fields read to, and whether every number among them is in its range
 pub record Fields : Type 0 where
@@ -72,6 +73,10 @@ zerosFor (k ∷ ks) = 0 ∷ zerosFor ks
 abbrev pub absent : List Kind → Fields
 absent ks = record { words = 0 ∷ zerosFor ks; fits = true }
 
+-- a setting that is not said, by a dash or by the line's end, is named all the same: present, and 0
+abbrev pub unsaid : Fields
+unsaid = record { words = 1 ∷ 0 ∷ []; fits = true }
+
 -- what is left after a tab and a dash
 abbrev pub dash : ℕ
 dash = 45
@@ -79,13 +84,23 @@ dash = 45
 unfoldable pub dashRead : List ℕ → Option (List ℕ)
 dashRead xs = expect tab (expect dash some) xs
 
-abbrev pub absentOr : List Kind → Option (List ℕ) → Option (Taken Fields) → Option (Taken Fields)
-absentOr ks none other = other
-absentOr ks (some rest) other = some (record { value = absent ks; rest = rest })
+-- what is left where a line ends: all of it, the line feed too
+unfoldable pub endRead : List ℕ → Option (List ℕ)
+endRead xs = expect lineFeed (λ rest. some xs) xs
+
+-- where such a rest was read, the fields for what is not said
+abbrev pub defaultOr : Fields → Option (List ℕ) → Option (Taken Fields) → Option (Taken Fields)
+defaultOr default none other = other
+defaultOr default (some rest) other = some (record { value = default; rest = rest })
+
+-- a dash, or fields behind a mark of presence
+abbrev pub dashOr : Fields → List Kind → List ℕ → Option (Taken Fields)
+dashOr default ks xs = defaultOr default (dashRead xs) (after (readKinds ks xs) (joinedTaken present))
 
 unfoldable pub readItem : Item → List ℕ → Option (Taken Fields)
 readItem (plain k) xs = readKinds (k ∷ []) xs
-readItem (optional ks) xs = absentOr ks (dashRead xs) (after (readKinds ks xs) (joinedTaken present))
+readItem (optional ks) xs = dashOr (absent ks) ks xs
+readItem setting xs = defaultOr unsaid (endRead xs) (dashOr unsaid (mark ∷ []) xs)
 
 unfoldable pub readItems : List Item → List ℕ → Option (Taken Fields)
 readItems [] xs = some (record { value = noFields; rest = xs })
@@ -127,9 +142,9 @@ coefficient = float ∷ rule ∷ []
 abbrev pub additionShape : List Item
 additionShape = plain collider ∷ plain collider ∷ optional (body ∷ []) ∷ optional (body ∷ []) ∷ plain mark ∷ plain mark ∷ plain float ∷ []
 
--- step time, length unit, contact tolerance, recycle distance, recycle cosine; match_contacts; default friction and restitution
+-- step time, length unit, contact tolerance, recycle distance, recycle cosine; match_contacts; default friction and restitution; matching
 abbrev pub settingsShape : List Item
-settingsShape = floats 5 (plain mark ∷ plain float ∷ plain rule ∷ plain float ∷ plain rule ∷ [])
+settingsShape = floats 5 (plain mark ∷ plain float ∷ plain rule ∷ plain float ∷ plain rule ∷ setting ∷ [])
 
 -- number, body, lower and upper corner, position; memberships, filters; friction, restitution, margin, sensor
 abbrev pub colliderShape : List Item

@@ -9,7 +9,7 @@ use lib.Dec.{eqb, leb}
 use lib.ListN.{length, drop, length-append}
 use lib.Seq.{drop-at}
 use Rattle.text.specs.Text.{Taken, after, expect, within, tab, lineFeed, hexDigit, digits, word, decimalFrom, decimal, largestNumber}
-use Rattle.trace_rules.specs.Fields.{Kind, float, number, collider, body, mark, rule, Item, plain, optional, Fields, noFields, joinedTaken, oneField, present, absent, absentOr, dash, dashRead, readKind, readKinds, readItem, readItems, shape, Line, readLine}
+use Rattle.trace_rules.specs.Fields.{Kind, float, number, collider, body, mark, rule, Item, plain, optional, setting, Fields, noFields, joinedTaken, oneField, present, absent, unsaid, dash, dashRead, endRead, defaultOr, dashOr, readKind, readKinds, readItem, readItems, shape, Line, readLine}
 
 -- ys is what follows some bytes of xs
 abbrev EndOf : List ℕ → List ℕ → Type 0
@@ -110,16 +110,29 @@ ends-dash (x ∷ y ∷ xs) = pick (eqb x tab) (eqb y dash)
     pick true false = tt
     pick false c = tt
 
-ends-absent : (ks : List Kind) (d : Option (List ℕ)) (other : Option (Taken Fields)) (xs : List ℕ) → EndsOf xs d → Ends xs other → Ends xs (absentOr ks d other)
-ends-absent ks none other xs h l = l
-ends-absent ks (some rest) other xs h l = h
+ends-end : (xs : List ℕ) → EndsOf xs (endRead xs)
+unfolding endRead expect
+ends-end [] = tt
+ends-end (x ∷ xs) = pick (eqb x lineFeed)
+  where
+    pick : (b : Bool) → EndsOf (x ∷ xs) (cond b (some (x ∷ xs)) none)
+    pick true = ([], refl)
+    pick false = tt
+
+ends-default : (default : Fields) (d : Option (List ℕ)) (other : Option (Taken Fields)) (xs : List ℕ) → EndsOf xs d → Ends xs other → Ends xs (defaultOr default d other)
+ends-default default none other xs h l = l
+ends-default default (some rest) other xs h l = h
+
+ends-dash-or : (default : Fields) (ks : List Kind) (xs : List ℕ) → Ends xs (dashOr default ks xs)
+ends-dash-or default ks xs =
+    ends-default default (dashRead xs) (after (readKinds ks xs) (joinedTaken present)) xs (ends-dash xs)
+    (ends-after (readKinds ks xs) (joinedTaken present) xs (ends-kinds ks xs) (λ t. ([], refl)))
 
 ends-item : (i : Item) (xs : List ℕ) → Ends xs (readItem i xs)
 unfolding readItem
 ends-item (plain k) xs = ends-kinds (k ∷ []) xs
-ends-item (optional ks) xs =
-    ends-absent ks (dashRead xs) (after (readKinds ks xs) (joinedTaken present)) xs (ends-dash xs)
-    (ends-after (readKinds ks xs) (joinedTaken present) xs (ends-kinds ks xs) (λ t. ([], refl)))
+ends-item (optional ks) xs = ends-dash-or (absent ks) ks xs
+ends-item setting xs = ends-default unsaid (endRead xs) (dashOr unsaid (mark ∷ []) xs) xs (ends-end xs) (ends-dash-or unsaid (mark ∷ []) xs)
 
 ends-items : (is : List Item) (xs : List ℕ) → Ends xs (readItems is xs)
 unfolding readItems

@@ -50,6 +50,24 @@ reference::branches! {
 }
 
 reference::branches! {
+    /// How accepted steps say the matching setting.
+    Matchings:
+    "matching: by number",
+    "matching: by place",
+    "matching: not named, 0 behind the mark",
+    "matching: not named, 1 behind the mark",
+    "matching: not named, another word behind the mark",
+}
+
+reference::branches! {
+    /// Steps that would leave another graph by the other rule of matching.
+    Parted:
+    "the rules part: a step by number",
+    "the rules part: a step by place",
+    "the rules part: a step that names none",
+}
+
+reference::branches! {
     /// The table of refusals: condition by condition.
     Table:
     "table 1: look up's answer",
@@ -83,9 +101,11 @@ reference::branches! {
     "table 2: request's body 2",
     "table 2: request's event mark",
     "table 2: request's modify mark",
-    "table 2: matching mark",
+    "table 2: mark of match_contacts",
     "table 2: default friction's rule",
     "table 2: default restitution's rule",
+    "table 2: matching's presence mark",
+    "table 2: matching mark",
     "table 2: collider's presence mark",
     "table 2: collider's mark of a body",
     "table 2: collider's body",
@@ -167,6 +187,8 @@ reference::branches! {
     "play: go, 6",
     "play: go, silent",
     "play: go, prints",
+    "play: go, by number",
+    "play: go, by place",
     "play: go, its lines begin inside a line",
     "play: go, its lines begin past it",
     "play: go, its lines begin past the end",
@@ -182,6 +204,20 @@ macro_rules! reach {
     };
 }
 pub(crate) use reach;
+
+macro_rules! said {
+    ($($branch:tt)+) => {
+        reference::reach_in!($crate::branches::Matchings; $($branch)+)
+    };
+}
+pub(crate) use said;
+
+macro_rules! parted {
+    ($($branch:tt)+) => {
+        reference::reach_in!($crate::branches::Parted; $($branch)+)
+    };
+}
+pub(crate) use parted;
 
 macro_rules! played {
     ($($branch:tt)+) => {

@@ -3,7 +3,7 @@
 use crate::draws::StepSettings;
 use reference::{self, ContactManifold, ContactPoint, Quat, Vec3};
 use sardinerod::{
-    Body, Coefficient, CoefficientCombine, Collider, PackedFeatureId, ProposedManifold,
+    Body, Coefficient, CoefficientCombine, Collider, Matching, PackedFeatureId, ProposedManifold,
     ProposedPoint, Settings,
 };
 
@@ -17,6 +17,14 @@ pub fn settings(s: &StepSettings) -> Settings {
         match_contacts: s.config.match_contacts,
         default_friction: friction(s.default_friction),
         default_restitution: restitution(s.default_restitution),
+        matching: s.matching.map(matching),
+    }
+}
+
+fn matching(matching: reference::Matching) -> Matching {
+    match matching {
+        reference::Matching::ByNumber => Matching::ByNumber,
+        reference::Matching::ByPlace => Matching::ByPlace,
     }
 }
 

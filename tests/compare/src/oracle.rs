@@ -242,10 +242,14 @@ fn request_strays(request: &[u32]) -> bool {
 }
 
 fn settings_stray(settings: &[u32]) -> bool {
+    let named = settings[SETTINGS_MATCHING];
+    let matching = settings[SETTINGS_MATCHING_VALUE];
     any_of! {
-        is_no_mark(settings[SETTINGS_MATCH_CONTACTS]) => "table 2: matching mark",
+        is_no_mark(settings[SETTINGS_MATCH_CONTACTS]) => "table 2: mark of match_contacts",
         is_no_rule(settings[SETTINGS_FRICTION_RULE]) => "table 2: default friction's rule",
         is_no_rule(settings[SETTINGS_RESTITUTION_RULE]) => "table 2: default restitution's rule",
+        is_no_mark(named) => "table 2: matching's presence mark",
+        named == 1 && is_no_mark(matching) => "table 2: matching mark",
     }
 }
 

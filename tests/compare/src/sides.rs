@@ -1,23 +1,38 @@
 //! A list's two sides: the reference on typed values, and the library through the bindings. Each call goes to both, is answered by
 //! both, and is followed by a comparison of all that they hold.
 
-use crate::branches::reach;
+use crate::branches::{parted, reach, said};
 use crate::differences::{self, Compared, Difference, same};
 use crate::draws::StepSettings;
 use crate::encode;
 use crate::oracle::{self, StepRows};
 use crate::refusals::{Call, Refusals};
 use reference::layout::*;
+use reference::tables::hash::graph_hash;
+use reference::tables::reached::uncounted;
 use reference::*;
 use sardinerod::{Addition, PrunePoint, Refusal, Shares, World};
 
+/// What the library is compared with.
+#[derive(Clone, Copy, Debug, PartialEq, Eq)]
+pub enum Against {
+    /// avian's Rust: every step names matching by number.
+    Rust,
+    /// The same but for matching, which is the model's (`reference::by_place`) in steps by place: every step draws the setting.
+    Model,
+}
+
 pub struct Sides {
+    pub against: Against,
     pub capacity: usize,
+    pub settings: StepSettings,
+    /// Accepted steps, and those that would leave another graph by the other rule of matching: counted against the model.
+    pub steps: usize,
+    pub parted: usize,
     // The reference.
     pub narrow_phase: NarrowPhase,
     pub hooks: Hooks,
     pub shapes: Shapes,
-    pub delta_secs: f32,
     events: Vec<CollisionEvent>,
     changes: Vec<ContactStatusChange>,
     diagnostics: CollisionDiagnostics,
@@ -32,9 +47,13 @@ fn number<T>(answer: &Result<T, Refusal>) -> u32 {
 }
 
 impl Sides {
-    pub fn new(capacity: usize, settings: &StepSettings) -> Self {
+    pub fn new(against: Against, capacity: usize, settings: &StepSettings) -> Self {
         let mut sides = Self {
+            against,
             capacity,
+            settings: *settings,
+            steps: 0,
+            parted: 0,
             narrow_phase: NarrowPhase {
                 collider_query: Query(vec![None; COLLIDERS]),
                 body_query: Query(vec![None; BODIES]),
@@ -46,6 +65,7 @@ impl Sides {
                 default_friction: settings.default_friction,
                 default_restitution: settings.default_restitution,
                 length_unit: settings.length_unit,
+                matching: settings.matching.unwrap_or_default(),
                 combined_by: vec![[CoefficientCombine::Average; 2]; capacity],
             },
             hooks: Hooks(vec![false; capacity]),
@@ -53,7 +73,6 @@ impl Sides {
                 proposed: vec![vec![]; capacity],
                 asked: vec![None; capacity],
             },
-            delta_secs: settings.delta_secs,
             events: vec![],
             changes: vec![],
             diagnostics: CollisionDiagnostics::default(),
@@ -65,11 +84,12 @@ impl Sides {
     }
 
     pub fn set_settings(&mut self, settings: &StepSettings) {
-        self.delta_secs = settings.delta_secs;
+        self.settings = *settings;
         self.narrow_phase.length_unit = settings.length_unit;
         self.narrow_phase.config = settings.config;
         self.narrow_phase.default_friction = settings.default_friction;
         self.narrow_phase.default_restitution = settings.default_restitution;
+        self.narrow_phase.matching = settings.matching.unwrap_or_default();
         self.world.set_settings(&encode::settings(settings));
     }
 
@@ -217,12 +237,13 @@ impl Sides {
             .map(|ids| ids.iter().map(place).collect())
             .collect();
         let listed = graph.active_pairs.len();
+        let by_other_rule = self.by_other_rule(&places);
         self.events.clear();
         self.shapes.asked.fill(None);
         self.diagnostics.recycled_count = 0;
         self.narrow_phase.update(
             &mut self.events,
-            self.delta_secs,
+            self.settings.delta_secs,
             &self.hooks,
             &mut self.shapes,
             &mut self.diagnostics,
@@ -235,6 +256,46 @@ impl Sides {
             1 => "removals in a step: 1",
             _ => "removals in a step: several",
         });
+        if let Some(other) = by_other_rule {
+            self.count_parted(&other);
+        }
+    }
+
+    /// The graph that the reference's step would leave by the other rule of matching. Against the model, where branches are counted.
+    fn by_other_rule(&self, places: &[Vec<usize>]) -> Option<ContactGraph> {
+        if !cfg!(feature = "counts") || self.against == Against::Rust {
+            return None;
+        }
+        let (mut narrow_phase, mut shapes) = (self.narrow_phase.clone(), self.shapes.clone());
+        narrow_phase.matching = match narrow_phase.matching {
+            Matching::ByNumber => Matching::ByPlace,
+            Matching::ByPlace => Matching::ByNumber,
+        };
+        uncounted(|| {
+            narrow_phase.update(
+                &mut vec![],
+                self.settings.delta_secs,
+                &self.hooks,
+                &mut shapes,
+                &mut CollisionDiagnostics::default(),
+                places,
+            )
+        });
+        Some(narrow_phase.contact_graph)
+    }
+
+    fn count_parted(&mut self, by_other_rule: &ContactGraph) {
+        let graphs = [&self.narrow_phase.contact_graph, by_other_rule];
+        let [left, other] = graphs.map(|graph| graph_hash(graph, self.capacity));
+        self.steps += 1;
+        if left != other {
+            self.parted += 1;
+            parted!(match (self.settings.matching) {
+                Some(Matching::ByNumber) => "the rules part: a step by number",
+                Some(Matching::ByPlace) => "the rules part: a step by place",
+                None => "the rules part: a step that names none",
+            });
+        }
     }
 
     /// Writes impulses of a stored point.
@@ -348,6 +409,25 @@ pub fn remove_pair(graph: &mut ContactGraph, id: ContactId) {
     let edge = graph.get_edge_by_id(id).unwrap();
     let key = PairKey::new(edge.collider1.index_u32(), edge.collider2.index_u32());
     graph.remove_edge_by_id(&key, id);
+}
+
+/// Whether rows of settings say that a step matches by place.
+pub fn says_by_place(settings: &[u32]) -> bool {
+    settings.len() == SETTINGS_LENGTH && matches!(settings[SETTINGS_MATCHING..], [0, _] | [1, 1])
+}
+
+/// Of an accepted step.
+pub fn reached_matching(settings: &[u32]) {
+    said!(match (
+        settings[SETTINGS_MATCHING],
+        settings[SETTINGS_MATCHING_VALUE]
+    ) {
+        (1, 0) => "matching: by number",
+        (1, _) => "matching: by place",
+        (_, 0) => "matching: not named, 0 behind the mark",
+        (_, 1) => "matching: not named, 1 behind the mark",
+        _ => "matching: not named, another word behind the mark",
+    });
 }
 
 fn reached_in_step(workers: &[Vec<ContactId>], pairs: usize, recycled: u32) {

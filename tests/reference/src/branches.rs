@@ -245,6 +245,47 @@ macro_rules! reach {
 pub(crate) use reach;
 
 crate::branches! {
+    /// Those of the model of matching by place.
+    ByPlace:
+    // A new point and the old ones.
+    "by place: matched by features straight",
+    "by place: matched by features crossed",
+    "by place: matched by anchors straight, a feature unknown",
+    "by place: matched by anchors crossed, a feature unknown",
+    "by place: matched by anchors crossed, features known",
+    "by place: not matched: features 0 and 0 on both sides",
+    "by place: not matched: features equal straight, one 0",
+    "by place: not matched: features equal crossed, one 0",
+    "by place: not matched: a feature unknown",
+    "by place: not matched: anchors near, features known",
+    "by place: not matched: features known",
+    "by place: no old point, where by number there is one",
+    "by place: another old point than by number",
+    // A pair's update.
+    "by place: none to match",
+    "by place: matching on",
+    "by place: 4 manifolds, matching on",
+    "by place: matching off",
+    "by place: over 4 manifolds, matching on",
+    "by place: over 4 manifolds, matching off",
+}
+
+impl ByPlace {
+    /// Those of a new point and the old ones.
+    pub fn of_points() -> impl Iterator<Item = &'static str> {
+        let names = Self::NAMES.iter().copied();
+        names.take_while(|name| *name != "by place: none to match")
+    }
+}
+
+macro_rules! reach_by_place {
+    ($($branch:tt)+) => {
+        $crate::reach_in!($crate::branches::ByPlace; $($branch)+)
+    };
+}
+pub(crate) use reach_by_place;
+
+crate::branches! {
     /// What traces reach.
     Traces:
     "line: A",
@@ -260,6 +301,7 @@ crate::branches! {
     "unreadable: letter",
     "unreadable: a field missing",
     "unreadable: a field left over",
+    "unreadable: a field behind the matching setting",
     "unreadable: not a whole number",
     "unreadable: not a float",
     "unreadable: a point not below a manifold or point",
@@ -275,6 +317,13 @@ crate::branches! {
     "float: another NaN",
     "optional: absent",
     "optional: not a dash",
+    "matching: the line ends before it",
+    "matching: a dash",
+    "matching: 0",
+    "matching: 1",
+    "matching: zeros in front",
+    "matching: out of range",
+    "matching: not a mark",
     "out of range: collider",
     "out of range: body",
     "out of range: mark",
@@ -289,6 +338,8 @@ crate::branches! {
     "G: 2, and a proposal too large",
     "G: 6 by manifolds",
     "G: 6 by points",
+    "step by number",
+    "step by place",
     "2 by T",
     "2 by C",
     "2 by B",

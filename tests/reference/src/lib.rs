@@ -9,6 +9,9 @@
 //! (`contact_graph`), one list of events in the pass's order for two writers, each event with its contact's id, and the given
 //! workers for threads (`system_param`).
 //!
+//! Beside the Rust, and no part of it: `by_place`, a model of the specification's matching by place, which a step asks in place of
+//! `match_contacts` where its settings say so.
+//!
 //! `trace` reads and plays traces over these.
 //!
 //! `layout` has the sizes and places of docs/BUFFERS.md by name, and `words` reads typed values from such words. `tables`, and the
@@ -19,6 +22,7 @@
 
 pub mod addition;
 pub mod branches;
+pub mod by_place;
 pub mod components;
 pub mod contact_graph;
 pub mod contact_types;
@@ -33,6 +37,7 @@ pub mod trace;
 pub mod words;
 
 pub use addition::*;
+pub use by_place::*;
 pub use components::*;
 pub use contact_graph::*;
 pub use contact_types::*;

@@ -1,7 +1,7 @@
 //! Branches whose counting needs more than the source computes there.
 
 use super::*;
-use crate::branches::reach;
+use crate::branches::{reach, reach_by_place};
 use crate::layout::PROPOSED_POINTS;
 
 pub fn matched_by_features(contact: &ContactPoint, previous: &ContactPoint) {
@@ -41,6 +41,75 @@ pub fn not_matched(contact: &ContactPoint, previous: &ContactPoint, threshold: f
             (true, _) => "not matched: a feature unknown",
         }
     );
+}
+
+fn features(contact: &ContactPoint) -> [PackedFeatureId; 2] {
+    [contact.feature_id1, contact.feature_id2]
+}
+
+fn crossed<T>([a, b]: [T; 2]) -> [T; 2] {
+    [b, a]
+}
+
+fn features_equal(a: &ContactPoint, b: &ContactPoint) -> bool {
+    features(a) == features(b) || features(a) == crossed(features(b))
+}
+
+fn anchors_near_crossed(a: &ContactPoint, b: &ContactPoint, threshold: f32) -> bool {
+    a.anchor1.distance_squared(b.anchor2) < threshold
+        && a.anchor2.distance_squared(b.anchor1) < threshold
+}
+
+pub fn placed_by_features(contact: &ContactPoint, previous: &ContactPoint) {
+    reach_by_place!(if (features(contact) == features(previous)) {
+        "by place: matched by features straight"
+    } else {
+        "by place: matched by features crossed"
+    });
+}
+
+pub fn placed_by_anchors(contact: &ContactPoint, previous: &ContactPoint, threshold: f32) {
+    reach_by_place!(
+        match (unknown(contact), anchors_near(contact, previous, threshold)) {
+            (true, true) => "by place: matched by anchors straight, a feature unknown",
+            (true, false) => "by place: matched by anchors crossed, a feature unknown",
+            (false, _) => "by place: matched by anchors crossed, features known",
+        }
+    );
+}
+
+pub fn not_placed(contact: &ContactPoint, previous: &ContactPoint, threshold: f32) {
+    let (new, old) = (features(contact), features(previous));
+    let none = [PackedFeatureId::UNKNOWN; 2];
+    let near = anchors_near(contact, previous, threshold);
+    reach_by_place!(match () {
+        _ if new == none && old == none => "by place: not matched: features 0 and 0 on both sides",
+        _ if new == old => "by place: not matched: features equal straight, one 0",
+        _ if new == crossed(old) => "by place: not matched: features equal crossed, one 0",
+        _ if unknown(contact) => "by place: not matched: a feature unknown",
+        _ if near => "by place: not matched: anchors near, features known",
+        _ => "by place: not matched: features known",
+    });
+}
+
+/// Where a new point takes its impulses by place, beside where it would by number.
+pub fn parted(contact: &ContactPoint, previous_contacts: &[ContactPoint], threshold: f32) {
+    let near = |previous: &ContactPoint| {
+        unknown(contact) && anchors_near(contact, previous, threshold)
+            || anchors_near_crossed(contact, previous, threshold)
+    };
+    let equal = |previous: &ContactPoint| features_equal(contact, previous);
+    let first = |compared: bool| {
+        let mut previous = previous_contacts.iter();
+        previous.position(|previous| compared && equal(previous) || near(previous))
+    };
+    match (first(true), first(!unknown(contact))) {
+        (by_number, by_place) if by_number == by_place => {}
+        (Some(_), None) => {
+            reach_by_place!("by place: no old point, where by number there is one")
+        }
+        _ => reach_by_place!("by place: another old point than by number"),
+    }
 }
 
 pub fn disjoint_event(edge: &ContactEdge) {
@@ -215,7 +284,17 @@ pub fn hook(touching: bool, pair: &ContactPair, hooks: &Hooks) {
     );
 }
 
-pub fn matching(manifolds: usize, on: bool) {
+pub fn matching(manifolds: usize, on: bool, by: Matching) {
+    if by == Matching::ByPlace {
+        reach_by_place!(match (manifolds, on) {
+            (0, _) => "by place: none to match",
+            (1..=3, true) => "by place: matching on",
+            (4, true) => "by place: 4 manifolds, matching on",
+            (1..=4, false) => "by place: matching off",
+            (_, true) => "by place: over 4 manifolds, matching on",
+            (_, false) => "by place: over 4 manifolds, matching off",
+        });
+    }
     reach!(match (manifolds, on) {
         (0, _) => "none to match",
         (1..=3, true) => "matching on",

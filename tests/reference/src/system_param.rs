@@ -73,6 +73,8 @@ pub struct NarrowPhase {
     pub default_friction: Friction,
     pub default_restitution: Restitution,
     pub length_unit: f32,
+    /// Not in the Rust, which matches by number: the matching setting.
+    pub matching: Matching,
     /// Not in the Rust: which rules each contact's coefficients were last combined by, friction and restitution. Noted with
     /// the counts alone.
     pub combined_by: Vec<[CoefficientCombine; 2]>,
@@ -790,12 +792,24 @@ impl NarrowPhase {
 
                     contacts.flags.set(ContactPairFlags::TOUCHING, touching);
 
-                    reach!(by reached::matching(contacts.manifolds.len(), self.config.match_contacts));
+                    reach!(by reached::matching(
+                        contacts.manifolds.len(),
+                        self.config.match_contacts,
+                        self.matching
+                    ));
                     if contacts.manifolds.len() <= 4 && self.config.match_contacts {
                         let distance_threshold = 0.1 * self.length_unit;
 
                         for manifold in contacts.manifolds.iter_mut() {
                             for previous_manifold in old_manifolds.iter() {
+                                // Not in the Rust: by place, the model is asked.
+                                if self.matching == Matching::ByPlace {
+                                    manifold.match_contacts_by_place(
+                                        &previous_manifold.points,
+                                        distance_threshold,
+                                    );
+                                    continue;
+                                }
                                 manifold
                                     .match_contacts(&previous_manifold.points, distance_threshold);
                             }

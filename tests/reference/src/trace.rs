@@ -87,6 +87,7 @@ struct Settings {
     config: NarrowPhaseConfig,
     default_friction: Friction,
     default_restitution: Restitution,
+    matching: Matching,
 }
 
 /// A line, and whether its numbers are in their ranges. One that is not stands for some other, but not among the words: there, an
@@ -125,7 +126,7 @@ fn read(line: &[u8]) -> Option<Read> {
         }
     };
     if fields.left.next().is_some() {
-        reach!("unreadable: a field left over");
+        reach!(by reached::left_over(&line));
         return None;
     }
     Some(Read {
@@ -294,6 +295,29 @@ impl<'a> Fields<'a> {
             },
             default_friction: self.friction()?,
             default_restitution: self.restitution()?,
+            matching: self.matching()?,
+        })
+    }
+
+    /// The last field of settings: a mark or a dash, or nothing at all. It is named to the step in any case, by number unless the
+    /// mark says otherwise.
+    fn matching(&mut self) -> Option<Matching> {
+        self.words.push(1);
+        let Some(field) = self.left.peek().copied() else {
+            reach!("matching: the line ends before it");
+            self.words.push(0);
+            return Some(Matching::ByNumber);
+        };
+        if self.left.next_if_eq(b"-").is_some() {
+            reach!("matching: a dash");
+            self.words.push(0);
+            return Some(Matching::ByNumber);
+        }
+        let by_place = self.mark();
+        reach!(by reached::matching(field, by_place.and(self.words.last().copied())));
+        Some(match by_place? {
+            false => Matching::ByNumber,
+            true => Matching::ByPlace,
         })
     }
 
@@ -526,6 +550,7 @@ impl Player {
             default_friction: settings.default_friction,
             default_restitution: settings.default_restitution,
             length_unit: settings.length_unit,
+            matching: settings.matching,
             combined_by: vec![[CoefficientCombine::Average; 2]; self.capacity],
         };
         let mut events = vec![];
@@ -540,6 +565,10 @@ impl Player {
         );
         self.graph = narrow_phase.contact_graph;
         let changes = narrow_phase.contact_status_changes;
+        reach!(match (settings.matching) {
+            Matching::ByNumber => "step by number",
+            Matching::ByPlace => "step by place",
+        });
         reach!(by reached::step(&events, &changes, diagnostics.recycled_count));
         printed(&events, &changes)
     }

@@ -103,6 +103,14 @@ impl<'a> Record<'a> {
         }
     }
 
+    fn matching(self, mark: usize) -> Matching {
+        match self.optional(mark, Self::mark) {
+            Some(false) => Matching::ByNumber,
+            Some(true) => Matching::ByPlace,
+            None => Matching::default(),
+        }
+    }
+
     fn margin(self, mark: usize) -> Option<CollisionMargin> {
         self.optional(mark, Self::float).map(CollisionMargin)
     }
@@ -337,6 +345,7 @@ pub fn step(
         },
         default_friction: settings.friction(SETTINGS_FRICTION),
         default_restitution: settings.restitution(SETTINGS_RESTITUTION),
+        matching: settings.matching(SETTINGS_MATCHING),
         combined_by: vec![[CoefficientCombine::Average; 2]; capacity],
     };
     (

@@ -1,7 +1,7 @@
 //! Damaged input: copies of the rows of random lists' calls with something changed, against the table of refusals.
 
 use compare::arguments::arguments;
-use compare::counts::{all_reached, conditions, print};
+use compare::counts::{all_reached, conditions, print, steps_by_rule};
 use compare::damage;
 use compare::lists;
 use compare::refusals::Refusals;
@@ -38,8 +38,9 @@ fn main() {
     }
     let reached = conditions().filter(|(_, count)| *count > 0).count();
     let (calls, refused) = (refusals.calls(), refusals.refused());
+    let [by_number, by_place] = steps_by_rule();
     println!(
-        "damage: {} lists, {calls} damaged calls ({refused} refused), {reached} conditions reached, no difference",
+        "damage: {} lists, {calls} damaged calls ({refused} refused; of the steps accepted {by_number} by number against the Rust, {by_place} by place against the model), {reached} conditions reached, no difference",
         list - first
     );
 }

@@ -1,4 +1,5 @@
-//! Random traces, played by the static library and over avian's Rust, compared line by line.
+//! Random traces, played by the static library and over avian's Rust, compared line by line. A step by place is made over the model of
+//! matching by place; what a trace prints does not show which rule matched.
 
 use compare::arguments::arguments;
 use compare::counts::{all_reached, print, traces};
@@ -40,5 +41,8 @@ fn main() {
         all_reached(traces(), answers.missing());
     }
     let reached = traces().filter(|(_, count)| *count > 0).count();
-    println!("traces: {count} traces, {lines} lines, {reached} branches reached, no difference");
+    let [by_number, by_place] = answers.by_rule();
+    println!(
+        "traces: {count} traces ({by_number} against the Rust, {by_place} with steps by place against the model), {lines} lines, {reached} branches reached, no difference"
+    );
 }

@@ -107,6 +107,8 @@ pub fn settings(rng: &mut Rng, settings: &mut [u32]) {
         (SETTINGS_MATCH_CONTACTS, MARK),
         (SETTINGS_FRICTION_RULE, RULE),
         (SETTINGS_RESTITUTION_RULE, RULE),
+        (SETTINGS_MATCHING, MARK),
+        (SETTINGS_MATCHING_VALUE, MARK),
     ]);
     match rng.one_in(4) {
         true => any_word(rng, settings),

@@ -7,7 +7,7 @@ use crate::differences::{Compared, Difference, same};
 use crate::draws::Rng;
 use crate::oracle;
 use crate::refusals::{Call, Refusals};
-use crate::sides::Sides;
+use crate::sides::{Against, Sides, says_by_place};
 use crate::traces::{damage, text};
 use reference::layout::*;
 use reference::trace::{
@@ -196,6 +196,17 @@ fn player(rng: &mut Rng, trace: &[u8]) -> LinePlayer {
     }
 }
 
+/// Whether the line is a go that fills its rows, by place.
+fn goes_by_place(play: &Play) -> bool {
+    let (trace, graph) = (&play.trace, &play.rows.graph);
+    let player = LinePlayer::from_words(&play.player);
+    let go = matches!(next_line(trace, player), Some((Asked::Go, _)));
+    go && player.fits
+        && !oracle::graph_strays(graph)
+        && says_by_place(&filled(trace, player, graph).settings)
+}
+
+/// Against the Rust, a go that comes to be by place is left out.
 pub fn play_line(
     rng: &mut Rng,
     sides: &Sides,
@@ -210,6 +221,9 @@ pub fn play_line(
     let lengths = [before.player.len(), before.out.len(), before.answer.len()];
     let [player, out, answer] = lengths;
     let number = oracle::play_line(&before.rows.rows(), player, out, answer);
+    if sides.against == Against::Rust && number == 0 && goes_by_place(&before) {
+        return Ok(());
+    }
     super::answered(refusals, Call::PlayLine, number, play.call())?;
     match number {
         0 => same_play(&expected(before)?, &play),
@@ -290,6 +304,11 @@ fn go(play: &mut Play, player: LinePlayer) -> Result<Vec<u8>, Difference> {
         });
         return Ok(number_alone(number));
     }
+    played!(if (says_by_place(&before.settings)) {
+        "play: go, by place"
+    } else {
+        "play: go, by number"
+    });
     let (events, changes) = step::stepped(&before, &play.rows)?;
     let text = printed(&events, &changes);
     played!(if (text.is_empty()) {

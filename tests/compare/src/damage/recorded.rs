@@ -50,13 +50,9 @@ fn stretch(rng: &mut Rng, sides: &Sides) -> Vec<u8> {
 }
 
 fn settings(rng: &mut Rng, sides: &Sides) -> Vec<u8> {
-    let world = &sides.narrow_phase;
     let settings = StepSettings {
-        delta_secs: sides.delta_secs,
-        length_unit: world.length_unit,
-        config: world.config,
-        default_friction: world.default_friction,
-        default_restitution: world.default_restitution,
+        matching: text::matching(rng, sides.against),
+        ..sides.settings
     };
     text::settings(rng, &settings)
 }

@@ -5,7 +5,7 @@ use crate::differences::{self, Compared, Difference, same};
 use crate::draws::Rng;
 use crate::oracle::{self, StepRows};
 use crate::refusals::{Call, Refusals};
-use crate::sides::Sides;
+use crate::sides::{Against, Sides, reached_matching, says_by_place};
 use reference::layout::*;
 use reference::{CollisionDiagnostics, CollisionEvent, ContactStatusChange, words};
 use sardinerod::{ContactGraph, Shares, World, raw};
@@ -115,10 +115,14 @@ impl Step {
     }
 }
 
+/// Against the Rust, rows that come to say by place are left out.
 pub fn step(rng: &mut Rng, sides: &Sides, shares: &Shares, refusals: &mut Refusals) -> Compared {
     let mut step = Step::new(rng, sides, shares);
     for _ in 0..damages(rng) {
         step.damage(rng);
+    }
+    if sides.against == Against::Rust && says_by_place(&step.settings) {
+        return Ok(());
     }
     let before = step.clone();
     let expected = oracle::step(&before.rows());
@@ -135,6 +139,7 @@ pub fn step(rng: &mut Rng, sides: &Sides, shares: &Shares, refusals: &mut Refusa
 /// reference's events and changes.
 pub fn stepped(before: &Step, after: &Step) -> Result<Written, Difference> {
     let capacity = before.graph[GRAPH_CAPACITY] as usize;
+    reached_matching(&before.settings);
     let rows = words::Rows {
         settings: &before.settings,
         colliders: &before.colliders,

@@ -17,6 +17,15 @@ fn fill_behind_marks(rng: &mut Rng, record: &mut [u32], marks: &[(usize, usize)]
     }
 }
 
+/// The matching mark behind a presence mark of 0; at times a mark all the same.
+pub fn settings(rng: &mut Rng, world: &mut World) {
+    let words = [0, 1, rng.word(), rng.word()];
+    let settings = world.settings_words_mut();
+    if settings[SETTINGS_MATCHING] == 0 {
+        settings[SETTINGS_MATCHING_VALUE] = rng.of(&words);
+    }
+}
+
 pub fn collider(rng: &mut Rng, world: &mut World, n: u32) {
     let record = &mut world.colliders_words_mut()[COLLIDER_SIZE * n as usize..][..COLLIDER_SIZE];
     let marks = [

@@ -21,6 +21,13 @@ impl Rng {
         rng
     }
 
+    /// From a place of its own: by the number alone, there are few sequences, each beginning one draw later than the last.
+    pub fn apart(seed: u64, number: u64) -> Self {
+        let mut rng = Self::new(seed, number);
+        let [high, low] = [rng.word(), rng.word()].map(u64::from);
+        Self::new(high << 32 | low, number)
+    }
+
     fn draw(&mut self) -> u64 {
         self.0 = self.0.wrapping_add(0x9e37_79b9_7f4a_7c15);
         let mut z = self.0;

@@ -81,6 +81,20 @@ impl Rng {
         .with_feature_ids(id1, id2)
     }
 
+    /// Makes one or both features of each point unknown, so that unknown ones come up among old and new points alike.
+    pub fn forget_features(&mut self, manifolds: &mut [ContactManifold]) {
+        let manifolds = manifolds.iter_mut();
+        for point in manifolds.flat_map(|manifold| &mut manifold.points) {
+            let forgotten = self.below(4);
+            if forgotten != 0 {
+                point.feature_id1 = PackedFeatureId::UNKNOWN;
+            }
+            if forgotten != 1 {
+                point.feature_id2 = PackedFeatureId::UNKNOWN;
+            }
+        }
+    }
+
     fn offset(&mut self) -> Vec3 {
         vec3(self.of(&OFFSETS), 0.0, self.of(&[0.0, 0.0, 0.1]))
     }

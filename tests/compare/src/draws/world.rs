@@ -12,6 +12,8 @@ pub struct StepSettings {
     pub config: NarrowPhaseConfig,
     pub default_friction: Friction,
     pub default_restitution: Restitution,
+    /// None where it is not named.
+    pub matching: Option<Matching>,
 }
 
 impl Rng {
@@ -73,6 +75,7 @@ impl Rng {
         }
     }
 
+    /// Matching is named by number: the Rust's.
     pub fn settings(&mut self) -> StepSettings {
         StepSettings {
             delta_secs: self.of(&TIMES),
@@ -85,7 +88,13 @@ impl Rng {
             },
             default_friction: self.friction(),
             default_restitution: self.restitution(),
+            matching: Some(Matching::ByNumber),
         }
+    }
+
+    /// By number, by place, or not named.
+    pub fn matching(&mut self) -> Option<Matching> {
+        self.of(&[Some(Matching::ByNumber), Some(Matching::ByPlace), None])
     }
 
     /// From -1 to 1 on most axes.

@@ -7,7 +7,7 @@ use crate::damage;
 use crate::differences::Difference;
 use crate::draws::Rng;
 use crate::refusals::Refusals;
-use crate::sides::{self, Sides};
+use crate::sides::{self, Against, Sides, reached_matching};
 use reference::ContactId;
 use reference::layout::*;
 use sardinerod::Addition;
@@ -31,30 +31,54 @@ struct List {
     sides: Sides,
     /// The numbers of the colliders, and of the body that each mostly belongs to.
     numbers: Vec<(u32, u32)>,
-    /// Pairs that a large list begins with.
+    /// Pairs that a large list begins with, and one against the model.
     first_pairs: Vec<(u32, u32)>,
 }
 
-/// Runs list `number` and gives its number of calls.
-pub fn run(seed: u64, number: u64, refusals: &mut Refusals) -> Result<usize, Failure> {
-    let mut list = List::new(seed, number);
+/// What lists have made: calls, and of those against the model the accepted steps, and those and the lists in which the two rules of
+/// matching part.
+#[derive(Clone, Copy, Debug, Default)]
+pub struct Ran {
+    pub calls: usize,
+    pub steps: usize,
+    pub parted_steps: usize,
+    pub parted_lists: usize,
+}
+
+/// Runs list `number`.
+pub fn run(
+    against: Against,
+    seed: u64,
+    number: u64,
+    ran: &mut Ran,
+    refusals: &mut Refusals,
+) -> Result<(), Failure> {
+    let mut list = List::new(against, seed, number);
     let calls = list.length();
     for call in 0..calls {
+        let steps = list.sides.steps;
         list.call(refusals)
             .and_then(|()| list.sides.compare())
             .map_err(|difference| Failure { call, difference })?;
+        if list.sides.steps > steps {
+            reached_matching(list.sides.world.settings_words());
+        }
     }
-    Ok(calls)
+    ran.calls += calls;
+    ran.steps += list.sides.steps;
+    ran.parted_steps += list.sides.parted;
+    ran.parted_lists += usize::from(list.sides.parted > 0);
+    Ok(())
 }
 
-/// Runs list `number`, with so many damaged calls, on copies, before each of its own.
+/// Runs list `number`, against the model, with so many damaged calls, on copies, before each of its own.
 pub fn run_damaged(
     seed: u64,
     number: u64,
     damaged: usize,
     refusals: &mut Refusals,
 ) -> Result<(), Failure> {
-    let mut list = List::new(seed, number);
+    let mut list = List::new(Against::Model, seed, number);
     let mut own = Refusals::default();
     for call in 0..list.length() {
         let result = (0..damaged)
@@ -104,11 +128,8 @@ fn collider_count(rng: &mut Rng, capacity: usize) -> usize {
     }
 }
 
-/// As many pairs of the colliders as there is room for, in any order; none in small lists.
-fn first_pairs(rng: &mut Rng, capacity: usize, numbers: &[(u32, u32)]) -> Vec<(u32, u32)> {
-    if !is_large(capacity) {
-        return vec![];
-    }
+/// As many pairs of the colliders as there is room for, in any order.
+fn all_pairs(rng: &mut Rng, capacity: usize, numbers: &[(u32, u32)]) -> Vec<(u32, u32)> {
     let mut pairs = vec![];
     for (k, (a, _)) in numbers.iter().enumerate() {
         pairs.extend(numbers[..k].iter().map(|(b, _)| (*a, *b)));
@@ -119,8 +140,11 @@ fn first_pairs(rng: &mut Rng, capacity: usize, numbers: &[(u32, u32)]) -> Vec<(u
 }
 
 impl List {
-    fn new(seed: u64, number: u64) -> Self {
-        let mut rng = Rng::new(seed, number);
+    fn new(against: Against, seed: u64, number: u64) -> Self {
+        let mut rng = match against {
+            Against::Rust => Rng::new(seed, number),
+            Against::Model => Rng::apart(seed, number),
+        };
         let capacity = capacity(&mut rng, number);
         reached_capacity(capacity);
         let count = collider_count(&mut rng, capacity);
@@ -130,9 +154,13 @@ impl List {
         rng.shuffle(&mut bodies);
         let settings = rng.settings();
         let numbers: Vec<(u32, u32)> = colliders.into_iter().zip(bodies).take(count).collect();
+        let first_pairs = match is_large(capacity) || against == Against::Model {
+            true => all_pairs(&mut rng, capacity, &numbers),
+            false => vec![],
+        };
         let mut list = Self {
-            sides: Sides::new(capacity, &settings),
-            first_pairs: first_pairs(&mut rng, capacity, &numbers),
+            sides: Sides::new(against, capacity, &settings),
+            first_pairs,
             numbers,
             rng,
         };

@@ -4,8 +4,9 @@ use super::List;
 use crate::branches::reach;
 use crate::damage::unread;
 use crate::differences::Difference;
-use crate::draws::Style;
+use crate::draws::{StepSettings, Style};
 use crate::refusals::Refusals;
+use crate::sides::Against;
 use reference::layout::*;
 use reference::{ContactId, ContactManifold, Entity, NarrowPhase, Vec3};
 use sardinerod::{Shares, World};
@@ -50,11 +51,24 @@ impl List {
         }
     }
 
+    /// Against the model: by number, by place, or not named, with any word behind the mark.
+    fn draw_matching(&mut self) {
+        let settings = StepSettings {
+            matching: self.rng.matching(),
+            ..self.sides.settings
+        };
+        self.sides.set_settings(&settings);
+        unread::settings(&mut self.rng, &mut self.sides.world);
+    }
+
     /// Settings, colliders and bodies are kept, or some drawn anew, or the bodies moved a little.
     pub fn draw_world(&mut self) {
         if self.rng.one_in(8) {
             let settings = self.rng.settings();
             self.sides.set_settings(&settings);
+        }
+        if self.sides.against == Against::Model {
+            self.draw_matching();
         }
         let one = self.rng.below(self.numbers.len());
         match self.rng.below(16) {
@@ -73,10 +87,13 @@ impl List {
     pub fn draw_proposals(&mut self) {
         for (place, id) in self.sides.active().into_iter().enumerate() {
             let hook = self.rng.one_in(2);
-            let proposal = match self.rng.one_in(3) {
+            let mut proposal = match self.rng.one_in(3) {
                 true => self.repeated_proposal(place),
                 false => self.rng.proposal(),
             };
+            if self.sides.against == Against::Model && !self.rng.one_in(3) {
+                self.rng.forget_features(&mut proposal);
+            }
             self.sides.propose(id, hook, proposal);
             if self.rng.one_in(8) {
                 unread::proposal(&mut self.rng, &mut self.sides.world, id.0);
@@ -163,7 +180,11 @@ impl List {
         shares
     }
 
+    /// Against the model mostly on stored points with impulses: where all are 0, it does not show which of them is taken.
     pub fn step(&mut self, refusals: &mut Refusals) -> Result<(), Difference> {
+        if self.sides.against == Against::Model && !self.rng.one_in(4) {
+            self.write_impulses();
+        }
         self.draw_world();
         self.draw_proposals();
         let active = self.sides.active();
@@ -183,7 +204,7 @@ impl List {
         }
     }
 
-    /// A mark or a rule of the settings out of range; the settings stay as they were.
+    /// A mark or a rule of the settings out of range, that of matching also where it is not named; the settings stay as they were.
     fn step_with_stray_word(
         &mut self,
         workers: &[Vec<ContactId>],
@@ -198,6 +219,10 @@ impl List {
             (SETTINGS_FRICTION_RULE, no_rule),
             (SETTINGS_RESTITUTION_RULE, 0),
             (SETTINGS_RESTITUTION_RULE, no_rule),
+            (SETTINGS_MATCHING, 2),
+            (SETTINGS_MATCHING, u32::MAX),
+            (SETTINGS_MATCHING_VALUE, 2),
+            (SETTINGS_MATCHING_VALUE, u32::MAX),
         ]);
         let old = self.sides.world.settings_words()[place];
         self.sides.world.settings_words_mut()[place] = word;

@@ -10,11 +10,12 @@ pub struct Answers {
     events: u64,
     changes: u64,
     silent: u64,
+    by_place: u64,
 }
 
 impl Answers {
-    /// What a trace's lines print.
-    pub fn note(&mut self, printed: &[Vec<u8>]) {
+    /// What a trace's lines print, and whether a step of it was by place.
+    pub fn note(&mut self, printed: &[Vec<u8>], by_place: bool) {
         let any = |start: &[u8]| printed.iter().any(|output| output.starts_with(start));
         let has = |part: &[u8]| printed.iter().any(|output| contains(output, part));
         self.traces += 1;
@@ -24,15 +25,22 @@ impl Answers {
         self.events += u64::from(any(b"E\t"));
         self.changes += u64::from(has(b"S\t"));
         self.silent += u64::from(printed.iter().all(|output| output.is_empty()));
+        self.by_place += u64::from(by_place);
     }
 
-    /// How many traces print each number at least once, events, changes, nothing.
+    /// Traces with all steps by number, and with one by place.
+    pub fn by_rule(&self) -> [u64; 2] {
+        [self.traces - self.by_place, self.by_place]
+    }
+
+    /// How many traces print each number at least once, events, changes, nothing; and have a step by place.
     pub fn lines(&self) -> impl Iterator<Item = (String, u64)> {
         let names = NUMBERS.map(|number| format!("traces that print {number}"));
         let others = [
             ("traces that print events", self.events),
             ("traces that print changes", self.changes),
             ("traces that print nothing", self.silent),
+            ("traces with a step by place", self.by_place),
         ];
         let others = others.map(|(name, count)| (name.to_string(), count));
         names.into_iter().zip(self.by_number).chain(others)

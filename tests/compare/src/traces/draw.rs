@@ -2,6 +2,7 @@
 
 use super::{Trace, text};
 use crate::draws::{Rng, StepSettings, Style};
+use crate::sides::Against;
 use reference::layout::*;
 use reference::trace::CAPACITY;
 use reference::*;
@@ -19,15 +20,16 @@ struct Draw<'a> {
     /// The pairs that an addition named, in its order.
     pairs: Vec<Pair>,
     large: bool,
+    against: Against,
 }
 
-pub fn trace(rng: &mut Rng, large: bool) -> Trace {
+pub fn trace(rng: &mut Rng, against: Against, large: bool) -> Trace {
     let capacity = match (large, rng.one_in(2)) {
         (true, _) => rng.of(&[64, 65, 130, MOST_CONTACTS]),
         (false, true) => CAPACITY,
         (false, false) => 1 + rng.below(2 * CAPACITY),
     };
-    let mut draw = Draw::new(rng, large);
+    let mut draw = Draw::new(rng, against, large);
     draw.whole();
     Trace {
         text: draw.text,
@@ -36,7 +38,7 @@ pub fn trace(rng: &mut Rng, large: bool) -> Trace {
 }
 
 impl<'a> Draw<'a> {
-    fn new(rng: &'a mut Rng, large: bool) -> Self {
+    fn new(rng: &'a mut Rng, against: Against, large: bool) -> Self {
         let count = if large { 13 } else { 3 } + rng.below(4);
         let mut colliders: Vec<u32> = (0..COLLIDERS as u32).collect();
         let mut bodies: Vec<u32> = (0..BODIES as u32).collect();
@@ -51,6 +53,7 @@ impl<'a> Draw<'a> {
             settings,
             pairs: vec![],
             large,
+            against,
             rng,
         };
         (0..count).for_each(|k| draw.draw_one(k));
@@ -181,12 +184,17 @@ impl<'a> Draw<'a> {
 
     fn settings(&mut self, blocks: &mut Vec<Vec<u8>>) {
         if !self.rng.one_in(80) {
-            blocks.push(text::settings(self.rng, &self.settings));
+            blocks.push(self.stated(self.settings));
         }
         if self.rng.one_in(12) {
             let other = self.rng.settings();
-            blocks.push(text::settings(self.rng, &other));
+            blocks.push(self.stated(other));
         }
+    }
+
+    fn stated(&mut self, mut settings: StepSettings) -> Vec<u8> {
+        settings.matching = text::matching(self.rng, self.against);
+        text::settings(self.rng, &settings)
     }
 
     fn point_count(&mut self) -> usize {

@@ -8,7 +8,9 @@ pub(crate) mod text;
 
 pub use answers::Answers;
 
+use crate::counts::trace_steps_by_place;
 use crate::draws::Rng;
+use crate::sides::Against;
 use reference::trace::play;
 use std::fmt;
 
@@ -42,18 +44,15 @@ impl fmt::Display for Failure {
     }
 }
 
-/// From a place of its own: by the number alone, traces would share few sequences, each beginning one draw later than the last.
-fn own_draws(seed: u64, number: u64) -> Rng {
-    let mut rng = Rng::new(seed, number);
-    let [high, low] = [rng.word(), rng.word()].map(u64::from);
-    Rng::new(high << 32 | low, number)
-}
-
-/// Trace `number`; odd ones are damaged.
+/// Trace `number`; odd ones are damaged. In a quarter of them settings may say by place.
 pub fn draw(seed: u64, number: u64) -> Trace {
-    let mut rng = own_draws(seed, number);
+    let mut rng = Rng::apart(seed, number);
     let large = number % 64 == 9;
-    let mut trace = draw::trace(&mut rng, large);
+    let against = match number % 8 {
+        4 | 5 => Against::Model,
+        _ => Against::Rust,
+    };
+    let mut trace = draw::trace(&mut rng, against, large);
     if number % 2 == 1 {
         damage::damage(&mut rng, &mut trace.text);
     }
@@ -62,13 +61,14 @@ pub fn draw(seed: u64, number: u64) -> Trace {
 
 /// The text of a trace that is neither large nor damaged.
 pub fn undamaged(seed: u64, number: u64) -> Vec<u8> {
-    draw::trace(&mut own_draws(seed, number), false).text
+    draw::trace(&mut Rng::apart(seed, number), Against::Rust, false).text
 }
 
 /// Plays a trace on both sides and gives the number of lines.
 pub fn compare(trace: &Trace, answers: &mut Answers) -> Result<usize, Failure> {
+    let steps = trace_steps_by_place();
     let reference = play(&trace.text, trace.capacity);
-    answers.note(&reference);
+    answers.note(&reference, trace_steps_by_place() > steps);
     let library = library(&trace.text, trace.capacity);
     match difference(&reference, &library) {
         None => Ok(reference.len()),

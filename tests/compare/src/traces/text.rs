@@ -1,6 +1,7 @@
 //! Lines as bytes. A number may have zeros in front, a float small letters; now and then a number is out of its range or too large.
 
 use crate::draws::{Rng, StepSettings};
+use crate::sides::Against;
 use reference::layout::*;
 use reference::*;
 
@@ -122,6 +123,21 @@ impl<'a> Line<'a> {
         line.rule(restitution.combine_rule)
     }
 
+    /// A mark; a dash or nothing where it is not named; now and then a number out of range, no mark, or a field more.
+    fn matching(self, matching: Option<Matching>) -> Self {
+        match (self.rng.below(1000), matching) {
+            (0, _) => self.field(""),
+            (1, _) => self.field("--"),
+            (2, _) => self.field("-").field("-"),
+            (3, Some(matching)) => self.below(matching as u32, 2).field("0"),
+            (4..12, Some(_)) => self.number(2),
+            (12..16, Some(_)) => self.number(u32::MAX),
+            (_, Some(matching)) => self.below(matching as u32, 2),
+            (..500, None) => self.field("-"),
+            (_, None) => self,
+        }
+    }
+
     /// In either order.
     fn pair(self, (a, b): (u32, u32)) -> Self {
         let (a, b) = if self.rng.one_in(2) { (a, b) } else { (b, a) };
@@ -141,6 +157,14 @@ pub fn addition(rng: &mut Rng, a: &Addition) -> Vec<u8> {
         .end()
 }
 
+/// What a line says for the matching setting: nothing or by number, against the model also by place.
+pub fn matching(rng: &mut Rng, against: Against) -> Option<Matching> {
+    match against {
+        Against::Rust => rng.of(&[None, Some(Matching::ByNumber)]),
+        Against::Model => rng.matching(),
+    }
+}
+
 pub fn settings(rng: &mut Rng, s: &StepSettings) -> Vec<u8> {
     Line::new(rng, b'T')
         .float(s.delta_secs)
@@ -151,6 +175,7 @@ pub fn settings(rng: &mut Rng, s: &StepSettings) -> Vec<u8> {
         .mark(s.config.match_contacts)
         .friction(s.default_friction)
         .restitution(s.default_restitution)
+        .matching(s.matching)
         .end()
 }
 

@@ -1,11 +1,13 @@
-//! The table of crates/contact_types_table: manifolds pruned, and points matched:
+//! The table of crates/contact_types_table: manifolds pruned, and points matched, by number, as the Rust does, and the same by place, as
+//! the model does:
 //! cargo run --release --offline --bin contact_types_table > ../../crates/contact_types_table/stdout
 
+use reference::branches::ByPlace;
 use reference::layout::MANIFOLDS;
 use reference::tables::draws::{COARSE, OFFSETS, common, few_points, many_points, seeded};
 use reference::tables::hash::bits;
 use reference::tables::reached::{Counts, reach};
-use reference::{ContactManifold, ContactPoint, PackedFeatureId, Vec2, Vec3, vec3};
+use reference::{ContactManifold, ContactPoint, Matching, PackedFeatureId, Vec2, Vec3, vec3};
 
 fn draw(key: u32, slot: u32) -> u32 {
     seeded(20260, key, slot as usize)
@@ -179,29 +181,40 @@ fn impulses(p: &ContactPoint) -> [u32; 3] {
     [p.warm_start_normal_impulse, tangent.x, tangent.y].map(bits)
 }
 
+fn match_contacts(new: &mut ContactManifold, olds: &[ContactPoint], threshold: f32, by: Matching) {
+    match by {
+        Matching::ByNumber => new.match_contacts(olds, threshold),
+        Matching::ByPlace => new.match_contacts_by_place(olds, threshold),
+    }
+}
+
 /// The impulses of each new point, after matching against the old manifolds in turn.
-fn match_case(c: u32, name: &str, count: u32) {
+fn match_case(c: u32, name: &str, count: u32, by: Matching) {
     let key = draw(c, 1);
     let threshold = f32::from_bits(THRESHOLDS[(draw(key, 3) % 12) as usize]);
     let mut m = manifold(key, 4);
     let new = m.points.clone();
     for i in 0..count {
-        m.match_contacts(&manifold(key, 10 + i).points, threshold);
+        match_contacts(&mut m, &manifold(key, 10 + i).points, threshold, by);
     }
     print!("{name}");
     word(c);
     for (p, new) in m.points.iter().zip(&new) {
         impulses(p).into_iter().for_each(word);
-        reach(if impulses(p) == impulses(new) {
-            "impulses left"
-        } else {
-            "impulses copied"
+        let copied = impulses(p) != impulses(new);
+        reach(match (by, copied) {
+            (Matching::ByNumber, false) => "impulses left",
+            (Matching::ByNumber, true) => "impulses copied",
+            (Matching::ByPlace, false) => "by place: impulses left",
+            (Matching::ByPlace, true) => "by place: impulses copied",
         });
     }
     println!();
 }
 
-const BRANCHES: [&str; 19] = [
+const BRANCHES: [&str; 21] = [
+    "by place: impulses copied",
+    "by place: impulses left",
     "impulses copied",
     "impulses left",
     "matched by anchors crossed, a feature unknown",
@@ -223,13 +236,21 @@ const BRANCHES: [&str; 19] = [
     "side value not further",
 ];
 
-fn main() {
-    (0..1000).for_each(prune_case);
+fn match_cases(many: &str, one: &str, by: Matching) {
     for c in 0..1000 {
-        match_case(c, "match", draw(draw(c, 1), 5) % (MANIFOLDS as u32 + 1));
+        let count = draw(draw(c, 1), 5) % (MANIFOLDS as u32 + 1);
+        match_case(c, many, count, by);
     }
     for c in 1000..1300 {
-        match_case(c, "match_one", 1);
+        match_case(c, one, 1, by);
     }
-    Counts::taken().at_least(10, BRANCHES);
+}
+
+fn main() {
+    (0..1000).for_each(prune_case);
+    match_cases("match", "match_one", Matching::ByNumber);
+    match_cases("match_place", "match_one_place", Matching::ByPlace);
+    let counts = Counts::taken();
+    counts.at_least(10, BRANCHES);
+    counts.at_least(10, ByPlace::of_points());
 }

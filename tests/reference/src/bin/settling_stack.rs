@@ -23,7 +23,7 @@ fn put_floats(row: &mut [u32], at: usize, floats: &[f32]) {
     put(row, at, &words);
 }
 
-/// Friction and restitution are a coefficient and a rule.
+/// Friction and restitution are a coefficient and a rule. Matching is named by number: the Rust's.
 fn settings() -> Vec<u32> {
     let mut words = vec![0; SETTINGS_LENGTH];
     words[SETTINGS_STEP_TIME] = bits(1.0 / 64.0);
@@ -34,6 +34,7 @@ fn settings() -> Vec<u32> {
     words[SETTINGS_MATCH_CONTACTS] = 1;
     put(&mut words, SETTINGS_FRICTION, &[bits(0.5), 1]);
     put(&mut words, SETTINGS_RESTITUTION, &[bits(0.1), 2]);
+    put(&mut words, SETTINGS_MATCHING, &[1, 0]);
     words
 }
 
@@ -390,5 +391,7 @@ fn main() {
             tally = Tally::NONE;
         }
     }
-    Counts::taken().at_least(1, BRANCHES);
+    let counts = Counts::taken();
+    counts.by_number_alone();
+    counts.at_least(1, BRANCHES);
 }

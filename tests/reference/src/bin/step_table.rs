@@ -450,6 +450,7 @@ fn main() {
     own.push("capacity: 64".to_string());
     let often = Branches::NAMES.iter().filter(|b| !SELDOM.contains(b));
     let counts = Counts::taken();
+    counts.by_number_alone();
     counts.none_but(&own);
     counts.at_least(5, own.iter().map(String::as_str));
     counts.at_least(5, often.copied());

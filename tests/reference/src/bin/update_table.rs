@@ -248,6 +248,7 @@ const SELDOM: [&str; 2] = [
 fn main() {
     (0..CASES).for_each(run);
     let counts = Counts::taken();
+    counts.by_number_alone();
     counts.none_but(&BRANCHES);
     counts.at_least(5, BRANCHES);
     counts.at_least(5, Branches::of_update().filter(|b| !SELDOM.contains(b)));

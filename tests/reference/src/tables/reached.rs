@@ -1,6 +1,6 @@
 //! How often a table reaches the reference's branches, and branches of its own.
 
-use crate::branches::Branches;
+use crate::branches::{Branches, ByPlace};
 use crate::counts;
 use std::cell::RefCell;
 use std::collections::BTreeMap;
@@ -18,17 +18,19 @@ pub fn reach(branch: impl Into<String>) {
 /// Makes something without counting.
 pub fn uncounted<T>(make: impl FnOnce() -> T) -> T {
     let own = REACHED.take();
-    let counters = Branches::counters();
-    let before: Vec<u32> = counts::loaded(counters).collect();
+    let lists = [Branches::counters(), ByPlace::counters()];
+    let before = lists.map(|counters| counts::loaded(counters).collect::<Vec<u32>>());
     let made = make();
-    for (counter, count) in counters.iter().zip(before) {
-        counter.store(count, Relaxed);
+    for (counters, before) in lists.into_iter().zip(before) {
+        for (counter, count) in counters.iter().zip(before) {
+            counter.store(count, Relaxed);
+        }
     }
     REACHED.set(own);
     made
 }
 
-/// What was counted: the table's own branches, and the reference's.
+/// What was counted: the table's own branches, the reference's, and those of the model of matching by place.
 pub struct Counts {
     own: BTreeMap<String, u32>,
     reference: BTreeMap<&'static str, u32>,
@@ -44,7 +46,7 @@ impl Counts {
     pub fn taken() -> Self {
         let counts = Self {
             own: REACHED.take(),
-            reference: Branches::counts().collect(),
+            reference: Branches::counts().chain(ByPlace::counts()).collect(),
         };
         for (name, count) in &counts.reference {
             eprintln!("{count:6} {name}");
@@ -66,6 +68,13 @@ impl Counts {
             if self.of(name) < often {
                 fail(format!("reached too seldom: {name}"));
             }
+        }
+    }
+
+    /// Ends the program if the model was asked: of a table that is the Rust's.
+    pub fn by_number_alone(&self) {
+        if let Some(name) = ByPlace::NAMES.iter().find(|name| self.of(name) > 0) {
+            fail(format!("not the Rust's: {name}"));
         }
     }
 

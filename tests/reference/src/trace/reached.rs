@@ -30,6 +30,26 @@ pub fn float(field: &[u8], float: f32) {
     }
 }
 
+/// The matching setting's field, neither missing nor a dash.
+pub fn matching(field: &[u8], number: Option<u32>) {
+    reach!(match number {
+        Some(0) => "matching: 0",
+        Some(1) => "matching: 1",
+        Some(_) => "matching: out of range",
+        None => "matching: not a mark",
+    });
+    if field.len() > 1 && matches!(number, Some(0 | 1)) {
+        reach!("matching: zeros in front");
+    }
+}
+
+pub fn left_over(line: &Line) {
+    reach!("unreadable: a field left over");
+    if let Line::Settings(_) = line {
+        reach!("unreadable: a field behind the matching setting");
+    }
+}
+
 pub fn addition(refusal: Option<u32>) {
     reach!(match refusal {
         None => "A: accepted",

@@ -17,5 +17,11 @@ returns-3 : tie.Need-returns-3
 unfolding settingsFit
 returns-3 c = search (passes, fails)
 
+returns-4 : tie.Need-returns-4
+unfolding settingsFit
+returns-4 c = search (passes, fails)
+
 pub settings-fit-spec : {M : Type 1} → statement M
-settings-fit-spec = tie.close (tie.spec (search needs) (search needs) (search needs) (search needs) (search needs) returns returns-2 returns-3)
+settings-fit-spec =
+    tie.close
+    (tie.spec (search needs) (search needs) (search needs) (search needs) (search needs) (search needs) returns returns-2 returns-3 returns-4)

@@ -10,4 +10,5 @@ returns c = search settings-loaded
 pub load-settings-spec : {M : Type 1} → statement M
 load-settings-spec =
     tie.close
-    (tie.spec (search needs) (search needs) (search needs) (search needs) (search needs) (search needs) (search needs) (search needs) returns)
+    (tie.spec (search needs) (search needs) (search needs) (search needs) (search needs) (search needs) (search needs) (search needs) (search needs)
+    returns)

@@ -6,10 +6,10 @@ use Rattle.contact_types_table.proofs.matching.match_all.Statement.{sta
 use Rattle.contact_types_table.proofs.matching.match_all.Tie as tie
 
 abbrev Inv-loop : tie.InvT-loop
-Inv-loop case count m₀ i₀ m i = (i ≤ count) × (count ≤ pairManifolds) × (m .count ≤ storedPoints)
+Inv-loop case by-place count m₀ i₀ m i = (i ≤ count) × (count ≤ pairManifolds) × (m .count ≤ storedPoints)
 
 abbrev μ-loop : tie.MeasureT-loop
-μ-loop case count m₀ i₀ m i = count - i
+μ-loop case by-place count m₀ i₀ m i = count - i
 
 pub match-all-spec : {M : Type 1} → statement M
 match-all-spec =

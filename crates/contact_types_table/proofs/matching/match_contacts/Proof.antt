@@ -6,10 +6,10 @@ use Rattle.contact_types_table.proofs.matching.match_contacts.Statement
 use Rattle.contact_types_table.proofs.matching.match_contacts.Tie as tie
 
 abbrev Inv-loop : tie.InvT-loop
-Inv-loop news olds distance-threshold threshold-squared count list₀ j₀ list j = (j ≤ count) × (count ≤ storedPoints)
+Inv-loop news olds by-place distance-threshold threshold-squared count list₀ j₀ list j = (j ≤ count) × (count ≤ storedPoints)
 
 abbrev μ-loop : tie.MeasureT-loop
-μ-loop news olds distance-threshold threshold-squared count list₀ j₀ list j = count - j
+μ-loop news olds by-place distance-threshold threshold-squared count list₀ j₀ list j = count - j
 
 pub match-contacts-spec : {M : Type 1} → statement M
 match-contacts-spec =

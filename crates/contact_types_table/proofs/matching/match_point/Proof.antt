@@ -6,10 +6,10 @@ use Rattle.contact_types_table.proofs.matching.match_point.Statement.{s
 use Rattle.contact_types_table.proofs.matching.match_point.Tie as tie
 
 abbrev Inv-loop : tie.InvT-loop
-Inv-loop new threshold-squared list count k₀ k = (k ≤ count) × (count ≤ storedPoints)
+Inv-loop new by-place threshold-squared list count k₀ k = (k ≤ count) × (count ≤ storedPoints)
 
 abbrev μ-loop : tie.MeasureT-loop
-μ-loop new threshold-squared list count k₀ k = count - k
+μ-loop new by-place threshold-squared list count k₀ k = count - k
 
 pub match-point-spec : {M : Type 1} → statement M
 match-point-spec =

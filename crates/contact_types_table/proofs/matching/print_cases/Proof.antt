@@ -5,10 +5,10 @@ use Rattle.contact_types_table.proofs.matching.print_cases.Statement.{s
 use Rattle.contact_types_table.proofs.matching.print_cases.Tie as tie
 
 abbrev Inv-loop : tie.InvT-loop
-Inv-loop c₀ c = c ≤ 1000
+Inv-loop by-place c₀ c = c ≤ 1000
 
 abbrev μ-loop : tie.MeasureT-loop
-μ-loop c₀ c = 1000 - c
+μ-loop by-place c₀ c = 1000 - c
 
 pub print-cases-spec : {M : Type 1} → statement M
 print-cases-spec =

@@ -5,10 +5,10 @@ use Rattle.contact_types_table.proofs.matching.print_single_cases.State
 use Rattle.contact_types_table.proofs.matching.print_single_cases.Tie as tie
 
 abbrev Inv-loop : tie.InvT-loop
-Inv-loop c₀ c = c ≤ 1300
+Inv-loop by-place c₀ c = c ≤ 1300
 
 abbrev μ-loop : tie.MeasureT-loop
-μ-loop c₀ c = 1300 - c
+μ-loop by-place c₀ c = 1300 - c
 
 pub print-single-cases-spec : {M : Type 1} → statement M
 print-single-cases-spec =

@@ -4,17 +4,18 @@ use Prim.Native.Nat.{_≤_, _-_}
 use native.Mathlib.Omega.{arith}
 use borrow.Author.Needs.{needs}
 use lib.ListN.{length}
+use Rattle.rules.specs.Matching.{featureRule}
 use Rattle.rule_laws.specs.MatchingLaws.{none-before-first}
 use Rattle.manifold_matching.specs.MatchingLaws.{Unmatched, unmatched-next, matched-at, unmatched-all}
 use Rattle.manifold_matching.proofs.matching.match_point.Statement.{statement}
 use Rattle.manifold_matching.proofs.matching.match_point.Tie as tie
 
 abbrev Inv-loop : tie.InvT-loop
-Inv-loop words₀ at olds from n threshold-squared new k₀ words k =
-    (k ≤ n) × (length words ≡ length words₀) × (words ≡ words₀) × Unmatched threshold-squared olds from n words₀ at k
+Inv-loop words₀ at olds from n by-place threshold-squared new k₀ words k =
+    (k ≤ n) × (length words ≡ length words₀) × (words ≡ words₀) × Unmatched (featureRule by-place) threshold-squared olds from n words₀ at k
 
 abbrev μ-loop : tie.MeasureT-loop
-μ-loop words₀ at olds from n threshold-squared new k₀ words k = n - k
+μ-loop words₀ at olds from n by-place threshold-squared new k₀ words k = n - k
 
 loop-holds : tie.Need-loop-holds Inv-loop μ-loop
 loop-holds c = (search needs, refl, refl, none-before-first _ _ _ _)
@@ -31,7 +32,7 @@ returns c =
     let b = t .before .before in
     let i = b .before .before .before in
     let w = i .before in
-    matched-at _ _ _ _ _ _ (w .loop .k) (i .loop-test .taken) (w .loop .inv .3) (w .before .load-point .ensures) (b .before .before .load-point2 .ensures)
+    matched-at _ _ _ _ _ _ _ (w .loop .k) (i .loop-test .taken) (w .loop .inv .3) (w .before .load-point .ensures) (b .before .before .load-point2 .ensures)
     (b .before .matches .ensures) (b .if1 .taken) (w .loop .inv .2) (t .take-impulses .ensures)
 
 loop-again : tie.Need-loop-again Inv-loop μ-loop
@@ -42,14 +43,14 @@ loop-again c =
       search needs,
       w .loop .inv .1,
       w .loop .inv .2,
-      unmatched-next _ _ _ _ _ _ (w .loop .k) (i .loop-test .taken) (w .loop .inv .3) (w .before .load-point .ensures) (m .before .load-point2 .ensures)
+      unmatched-next _ _ _ _ _ _ _ (w .loop .k) (i .loop-test .taken) (w .loop .inv .3) (w .before .load-point .ensures) (m .before .load-point2 .ensures)
           (m .matches .ensures) (c .if1 .left),
     )
 
 returns-2 : tie.Need-returns-2 Inv-loop μ-loop
 returns-2 c =
     let w = c .before in
-    rw (w .loop .inv .2) (unmatched-all _ _ _ _ _ _ (w .loop .k) (omega arith) (w .loop .inv .3))
+    rw (w .loop .inv .2) (unmatched-all _ _ _ _ _ _ _ (w .loop .k) (omega arith) (w .loop .inv .3))
 
 pub match-point-spec : {M : Type 1} → statement M
 match-point-spec =

@@ -1,11 +1,10 @@
 -- `trace_lines::items::read_coefficient` meets its contract. Assumes nothing.
-use mathlib.Core.Path.{refl, subst}
-use mathlib.Core.List.{[], _∷_}
+use mathlib.Core.Path.{subst}
 use borrow.Author.Needs.{needs}
-use Rattle.trace_rules.specs.Fields.{float, rule, zerosFor, coefficient}
+use Rattle.trace_rules.specs.Fields.{float, rule, absent, zerosFor, readItem, coefficient}
 use Rattle.trace_lines.specs.Answers.{DashReadAt, FieldReadAt}
 use Rattle.trace_lines.specs.Codes.{kindOf}
-use Rattle.trace_lines.specs.ItemLaws.{absent-read, first-none, second-none, both-read}
+use Rattle.trace_lines.specs.ItemLaws.{dash-stored, first-none, second-none, both-read}
 use Rattle.trace_lines.proofs.items.read_coefficient.Statement.{statement}
 use Rattle.trace_lines.proofs.items.read_coefficient.Tie as tie
 
@@ -16,11 +15,11 @@ add-t11 c =
     search needs
 
 returns : tie.Need-returns
-unfolding zerosFor
+unfolding zerosFor readItem
 returns c =
     let a = c .before .before .before .before .before .before .before .before .args in
     let d = subst (DashReadAt (a .text .now) (a .at)) (c .before .before .before .before .if1 .taken) (c .before .before .before .before .before .dash-at .ensures) in
-    absent-read (a .text .now) (a .at) (a .n) (a .words .now) _ coefficient (0 ∷ 0 ∷ 0 ∷ []) _ d refl (c .before .before .store-triple .ensures) refl
+    dash-stored (a .text .now) (a .at) (a .n) (a .words .now) _ (absent coefficient) coefficient d (c .before .before .store-triple .ensures)
 
 returns-2 : tie.Need-returns-2
 unfolding kindOf

@@ -1,5 +1,5 @@
 //! The time of a step: avian's Rust as carried over, counts left out, and the library, on the same inputs in one run. Then that of a
-//! trace.
+//! trace. In the case by place the Rust's matching is replaced by the model's, and the points have no features; all others are by number.
 //!
 //! Both update all active pairs by the same workers, one after another, and make the status pass, with events, changes and
 //! distances. The Rust's typed inputs are made before the time is taken; its shape copies the proposed manifolds into the pair. The
@@ -13,7 +13,7 @@ compile_error!("the time is taken without counts: --no-default-features --featur
 
 use compare::draws::StepSettings;
 use compare::refusals::Refusals;
-use compare::sides::Sides;
+use compare::sides::{Against, Sides};
 use reference::layout::*;
 use reference::*;
 use sardinerod::{Addition, Shares, raw};
@@ -34,32 +34,45 @@ struct Case {
     /// The bodies have moved and turned a little since the contacts were made.
     moved: bool,
     points: usize,
+    /// By place, of points without features.
+    matching: Matching,
 }
 
-const CASES: [Case; 4] = [
+const CASES: [Case; 5] = [
     Case {
         name: "recycled, at rest",
         recycle_distance: 0.05,
         moved: false,
         points: STORED_POINTS,
+        matching: Matching::ByNumber,
     },
     Case {
         name: "recycled, moved",
         recycle_distance: 0.05,
         moved: true,
         points: STORED_POINTS,
+        matching: Matching::ByNumber,
     },
     Case {
         name: "none recycled",
         recycle_distance: 0.0,
         moved: false,
         points: STORED_POINTS,
+        matching: Matching::ByNumber,
+    },
+    Case {
+        name: "by place, unnamed",
+        recycle_distance: 0.0,
+        moved: false,
+        points: STORED_POINTS,
+        matching: Matching::ByPlace,
     },
     Case {
         name: "points pruned",
         recycle_distance: 0.0,
         moved: false,
         points: PROPOSED_POINTS,
+        matching: Matching::ByNumber,
     },
 ];
 
@@ -67,6 +80,7 @@ fn main() {
     println!(
         "ns for a step, median of {BATCHES} batches; {STORED_POINTS} stored points for each contact"
     );
+    println!("by place, the model of that stands for the Rust's matching");
     println!("case               contacts  workers      Rust   library  library / Rust");
     for case in CASES {
         for workers in WORKERS {
@@ -213,7 +227,7 @@ impl Rust {
                 .collect(),
             narrow_phase: sides.narrow_phase.clone(),
             events: vec![],
-            delta_secs: sides.delta_secs,
+            delta_secs: sides.settings.delta_secs,
             hooks: sides.hooks.clone(),
             shapes: sides.shapes.clone(),
         }
@@ -287,7 +301,11 @@ impl Library {
 // ---- The scene: a ring of colliders, each touching the next.
 
 fn sides(case: Case, contacts: usize) -> Sides {
-    let mut sides = Sides::new(contacts, &settings(case));
+    let against = match case.matching {
+        Matching::ByNumber => Against::Rust,
+        Matching::ByPlace => Against::Model,
+    };
+    let mut sides = Sides::new(against, contacts, &settings(case));
     let colliders = (contacts + 1).min(COLLIDERS);
     for n in 0..colliders {
         sides.set_collider(n as u32, Some(collider(n)));
@@ -307,7 +325,7 @@ fn sides(case: Case, contacts: usize) -> Sides {
         sides.add(&addition, &mut refusals).unwrap();
     }
     for id in sides.active() {
-        sides.propose(id, true, vec![manifold(id, case.points)]);
+        sides.propose(id, true, vec![manifold(id, case)]);
     }
     sides
 }
@@ -339,6 +357,7 @@ fn settings(case: Case) -> StepSettings {
             coefficient: 0.1,
             combine_rule: CoefficientCombine::Average,
         },
+        matching: Some(case.matching),
     }
 }
 
@@ -404,14 +423,19 @@ fn move_bodies(sides: &mut Sides) {
     }
 }
 
-/// Points around a circle, some deeper than others, each with its own features.
-fn manifold(id: ContactId, points: usize) -> ContactManifold {
+/// Points around a circle, some deeper than others, by number each with its own features.
+fn manifold(id: ContactId, case: Case) -> ContactManifold {
+    let points = case.points;
     let point = |k: usize| {
         let angle = k as f32 / points as f32 * std::f32::consts::TAU;
         let anchor = vec3(angle.cos() * 0.5, angle.sin() * 0.5, 0.1);
         let depth = 0.01 + (k * 7 % points) as f32 * 0.001;
         let feature = |kind: u32| PackedFeatureId(kind << 30 | (id.0 << 6) | k as u32);
-        ContactPoint::new(anchor, anchor, anchor, depth).with_feature_ids(feature(1), feature(3))
+        let point = ContactPoint::new(anchor, anchor, anchor, depth);
+        match case.matching {
+            Matching::ByNumber => point.with_feature_ids(feature(1), feature(3)),
+            Matching::ByPlace => point,
+        }
     };
     ContactManifold::new((0..points).map(point), vec3(0.0, 0.0, 1.0))
 }

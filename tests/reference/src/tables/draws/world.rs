@@ -49,6 +49,7 @@ fn rule(owner: u32, slot: usize) -> u32 {
     1 + draw(owner, slot) % RULES as u32
 }
 
+/// Matching is named by number: the Rust's.
 pub fn setting_word(case: u32, i: usize) -> u32 {
     let owner = draw(case, 30);
     let k = (draw(owner, i) % 16) as usize;
@@ -61,6 +62,8 @@ pub fn setting_word(case: u32, i: usize) -> u32 {
         SETTINGS_MATCH_CONTACTS => 1 - one_in(owner, i, 4),
         SETTINGS_FRICTION | SETTINGS_RESTITUTION => coefficient(owner, i),
         SETTINGS_FRICTION_RULE | SETTINGS_RESTITUTION_RULE => rule(owner, i),
+        SETTINGS_MATCHING => 1,
+        SETTINGS_MATCHING_VALUE => 0,
         SETTINGS_LENGTH.. => unreachable!(),
     }
 }
