@@ -107,6 +107,66 @@ static void roots(void) {
     for (int i = 0; i < 18; i++) line_root(special[i]);
 }
 
+/* The estimate of the root of the normal number with pattern u, by the operations of crates/math/src/root.rt in the same order. */
+static float estimate(uint32_t u) {
+    float x = of_bits(u), y = of_bits(u / 2 + 0x1fbb4f2eu);
+    float z = (y + x / y) * 0.49985f;
+    return (z + x / z) * 0.5f;
+}
+
+/* How far estimates are from the hardware's roots, in last places: how many lie below the root, on it and above it, by
+   2 at most, how many are further off, and the most that one is off. */
+typedef struct { uint32_t below, on, above, beyond, greatest; } tally;
+
+static void count(tally *t, uint32_t u) {
+    int64_t root = to_bits(sqrtf(of_bits(u)));
+    /* A subnormal number is multiplied by 2^24 first, and its root is then 2^12 times as large. */
+    int64_t guess = u < 0x800000 ? (int64_t)to_bits(estimate(to_bits(of_bits(u) * 0x1p24f))) - (12 << 23) : to_bits(estimate(u));
+    int64_t up = root - guess, off = up < 0 ? -up : up;
+    if (off > t->greatest) t->greatest = (uint32_t)off;
+    if (off == 0) t->on++;
+    else if (off > 2) t->beyond++;
+    else if (up > 0) t->below++;
+    else t->above++;
+}
+
+static void count_from(tally *t, uint32_t first, uint32_t n) { for (uint32_t k = 0; k < n; k++) count(t, first + k); }
+
+static uint32_t xorshift(uint32_t x) { x ^= x << 13; x ^= x >> 17; return x ^ x << 5; }
+
+static void tally_out(const char *n, uint32_t field, const tally *t) {
+    printf("%s", n); hex(field); hex(t->below); hex(t->on); hex(t->above); hex(t->beyond); hex(t->greatest); putchar('\n');
+}
+
+/* Fails where an estimate is more than 2 last places off. */
+static int corrections(void) {
+    uint32_t greatest = 0;
+    for (uint32_t field = 127; field <= 128; field++) {
+        tally t = {0};
+        count_from(&t, field << 23, 1u << 23);
+        tally_out("corrected all", field, &t);
+        if (t.greatest > greatest) greatest = t.greatest;
+    }
+    for (uint32_t field = 0; field <= 254; field++) {
+        tally t = {0};
+        count_from(&t, field ? field << 23 : 1, 8);
+        count_from(&t, (field << 23) + 0x7ffff8, 8);
+        /* Squares and the floats beside them; of subnormal numbers 2k^2 units of 2^-149, the squares of 2k units of 2^-75. */
+        for (uint32_t n = 2049; n <= 4095; n++)
+            count_from(&t, (field ? field << 23 | (to_bits((float)(n * n)) & 0x7fffff) : 2 * (n - 2048) * (n - 2048)) - 1, 3);
+        uint32_t word = xorshift(0x9e3779b9u ^ field);
+        for (uint32_t k = 0; k < 4096; k++) {
+            word = xorshift(word);
+            count(&t, field ? field << 23 | (word & 0x7fffff) : ((word & 0x7fffff) | 0x400000) >> k % 23);
+        }
+        tally_out("corrected", field, &t);
+        if (t.greatest > greatest) greatest = t.greatest;
+    }
+    printf(greatest > 2 ? "corrected by too much" : "corrected by at most"); hex(greatest); putchar('\n');
+    if (greatest > 2) fprintf(stderr, "math_table: an estimate is %u last places off\n", (unsigned)greatest);
+    return greatest > 2;
+}
+
 static void choices(void) {
     static const uint32_t u[12] = {
         0x7fc00000, 0x7f800000, 0xff800000, 0x00000000, 0x80000000, 0x3f800000,
@@ -181,9 +241,10 @@ static void quats(int c, int tame) {
 
 int main(void) {
     roots();
+    int failed = corrections();
     choices();
     for (int c = 0; c < 40; c++) { vectors(c, 0); vectors(c, 1); }
     lengths_kept();
     for (int c = 0; c < 40; c++) { quats(c, 0); quats(c, 1); }
-    return 0;
+    return failed;
 }

@@ -5,6 +5,7 @@ pub mod Choose
 pub mod ChooseLaws
 pub mod Root
 pub mod Rooted
+pub mod Estimate
 pub mod Vec
 pub mod Quat
 pub mod Mat

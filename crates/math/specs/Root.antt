@@ -9,6 +9,10 @@ use lib.Ieee.{Float, nan, inf, fin, Format, binary32, low, up, down, size, round
 abbrev pub IsRoot : ℕ → ℕ → Type 0
 IsRoot n r = (r * r ≤ n) × (n < (r + 1) * (r + 1))
 
+-- r is the whole number nearest to the root of n, which is above 0: n lies between the squares of r - 1 / 2 and r + 1 / 2, and on neither, since they are not whole
+abbrev pub IsNearest : ℕ → ℕ → Type 0
+IsNearest n r = (r * r < n + r) × (n ≤ r * r + r)
+
 -- r + b where its square is at most n, and r otherwise
 abbrev pub raised : ℕ → ℕ → ℕ → ℕ
 raised n r b = cond (leb ((r + b) * (r + b)) n) (r + b) r
@@ -18,7 +22,7 @@ unfoldable pub digits : ℕ → ℕ → ℕ → ℕ
 digits n zero r = r
 digits n (suc k) r = digits n k (raised n r (2 ^ k))
 
--- the one number r with `IsRoot n r` (`floorRoot-is`, `root-unique` of `proofs/Roots.antt`)
+-- the one number r with `IsRoot n r` (`floorRoot-is`, `root-unique` of `proofs/RootedLaws.antt`)
 unfoldable pub floorRoot : ℕ → ℕ
 unfolding digits
 floorRoot n = digits n (size n) 0
