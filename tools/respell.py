@@ -25,10 +25,10 @@ LEMMAS = [
     ("trace_runs.specs.RoomLaws", "rows_long"), ("contact_api.specs.CallLaws", "struct_row"),
 ]
 
-DECLARED = re.compile(r"^(?:abbrev pub |unfoldable pub |pub |abbrev |unfoldable )?([^\s(){}:;,.]+) :(?: |$)")
+DECLARED = re.compile(r"^(?:abbrev pub |unfoldable pub |pub |abbrev |unfoldable )?([^\s(){}:;,.]+)(?: \{[^}]*\})? :(?: |$)")
 RECORD = re.compile(r"^(?:pub )?record ")
 DATA = re.compile(r"^(?:pub )?data ")
-FIELD = re.compile(r"^\s+(?:pub )?([^\s(){}:;,.]+) :(?: |$)")
+FIELD = re.compile(r"^\s+(?:abbrev pub |unfoldable pub |pub |abbrev |unfoldable )?([^\s(){}:;,.]+)(?: \{[^}]*\})? :(?: |$)")
 TOKEN = re.compile(r"[^\s(){}\[\];,.`\"\u231c\u231d]+|\.")
 
 
@@ -143,6 +143,19 @@ def turn(p, text, words, members, seen):
     return "".join(out)
 
 
+LIBRARY = re.compile(r"(?m)^\s*(?:pub )?(?:ghost )?use ([\w.]+)\.\{([^}]*)\}")
+
+
+def not_ours(text):
+    """The names that a file takes from the library."""
+    found = set()
+    for m in LIBRARY.finditer(text):
+        part = m[1].split(".")
+        if part[0] != "Rattle" or not os.path.isdir(os.path.join(ROOT, "crates", part[1])):
+            found |= {n.strip() for n in m[2].split(",")}
+    return found
+
+
 def main():
     words, members, every = declared()
     names = set(words) | set(members)
@@ -180,7 +193,8 @@ def main():
             home = os.path.join(ROOT, "crates", *where.split(".")) + ".antt"
             if p == home or re.search(r"Rattle\." + re.escape(where) + r"\.\{[^}]*(?<![\w'-])" + n + r"(?![\w'-])", text):
                 new = re.sub(r"(?<![\w'.-])" + n + r"(?![\w'-])", n + "_lem", new)
-        new = turn(p, new, words, members, seen)
+        theirs = not_ours(text)
+        new = turn(p, new, {n: w for n, w in words.items() if n not in theirs}, members, seen)
         if seen:
             print("dotted, left:", os.path.relpath(p, ROOT), seen)
         if new != text and not DRY:

@@ -7,7 +7,7 @@ use crate::places::put;
 use crate::settings::setting_word;
 
 // What a row, or a record in it, holds.
-#[derive(Drop)]
+#[derive(Clone, Copy)]
 pub enum Drawn {
     Settings,
     Collider(u32),

@@ -1,7 +1,8 @@
-// Parts of a line: numbers, marks and words.
+// Parts of a line: numbers, marks and words, each written to the writer that stands first.
 ghost use Rattle.std.specs.Prelude.{◌<◌};
 
-use libc::STDOUT_FILENO;
+use std::io;
+use std::io::Write;
 
 const DIGITS: [u8; 16] = *b"0123456789ABCDEF";
 
@@ -11,35 +12,35 @@ fn digit(d: u32) -> u8
     DIGITS[d as usize]
 }
 
-pub fn print_name(name: &[u8]) {
-    io::write_all(STDOUT_FILENO, name);
+pub fn print_name<W: Write>(out: &mut W, name: &[u8]) -> io::Result<()> {
+    out.write_all(name)
 }
 
-pub fn print_number(n: u32) {
-    io::print_decimal(STDOUT_FILENO, n as u64);
+pub fn print_number<W: Write>(out: &mut W, n: u32) -> io::Result<()> {
+    write!(out, "{n}")
 }
 
 // After a tab.
-pub fn print_count(n: u32) {
-    print_name(b"\t");
-    print_number(n);
+pub fn print_count<W: Write>(out: &mut W, n: u32) -> io::Result<()> {
+    print_name(out, b"\t")?;
+    print_number(out, n)
 }
 
-pub fn print_refused(number: u32) {
-    print_name(b"\trefused");
-    print_count(number);
+pub fn print_refused<W: Write>(out: &mut W, number: u32) -> io::Result<()> {
+    print_name(out, b"\trefused")?;
+    print_count(out, number)
 }
 
-pub fn print_mark(mark: bool) {
+pub fn print_mark<W: Write>(out: &mut W, mark: bool) -> io::Result<()> {
     if mark {
-        print_name(b"\t1");
+        print_name(out, b"\t1")
     } else {
-        print_name(b"\t0");
+        print_name(out, b"\t0")
     }
 }
 
 // A tab and the 8 hex digits of a word.
-pub fn print_word(word: u32) {
+pub fn print_word<W: Write>(out: &mut W, word: u32) -> io::Result<()> {
     let mut text = [b'\t'; 9];
     let mut rest = word;
     let mut i = 8;
@@ -48,9 +49,9 @@ pub fn print_word(word: u32) {
         rest = rest / 16;
         i -= 1;
     }
-    print_name(&text);
+    print_name(out, &text)
 }
 
-pub fn print_end() {
-    print_name(b"\n");
+pub fn print_end<W: Write>(out: &mut W) -> io::Result<()> {
+    print_name(out, b"\n")
 }

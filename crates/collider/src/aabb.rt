@@ -5,7 +5,7 @@ ghost use Rattle.collider.specs.Boxes.{grown, intersecting};
 
 use math::vec::Vec3;
 
-#[derive(Drop)]
+#[derive(Clone, Copy)]
 pub struct ColliderAabb {
     pub min: Vec3,
     pub max: Vec3,

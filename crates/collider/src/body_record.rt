@@ -17,7 +17,7 @@ use math::vec::Vec3;
 use words::row::load_float;
 use words::vec::{load_quat, load_vec3};
 
-#[derive(Drop)]
+#[derive(Clone, Copy)]
 pub struct BodyRecord {
     // A static body.
     pub is_static: bool,
@@ -32,7 +32,7 @@ pub struct BodyRecord {
     pub sweep_radius: f32,
 }
 
-#[derive(Drop)]
+#[derive(Clone, Copy)]
 pub enum FoundBody {
     Present(BodyRecord),
     Absent,

@@ -18,7 +18,7 @@ use math::vec::Vec3;
 use words::row::load_word;
 use words::vec::load_vec3;
 
-#[derive(Drop)]
+#[derive(Clone, Copy)]
 pub struct ColliderRecord {
     pub body: OptionalBody,
     pub lower: Vec3,
@@ -32,7 +32,7 @@ pub struct ColliderRecord {
     pub sensor: bool,
 }
 
-#[derive(Drop)]
+#[derive(Clone, Copy)]
 pub enum FoundCollider {
     Present(ColliderRecord),
     Absent,

@@ -1,4 +1,6 @@
 // Settings, colliders and bodies in lent rows of words. From avian's collider/layers.rs, collider/mod.rs, collider_hierarchy/mod.rs and rigid_body/mod.rs.
+#![tactic(auto)]
+
 pub mod aabb;
 pub mod body_record;
 pub mod collider_record;

@@ -6,26 +6,26 @@ ghost use Rattle.collider.specs.Views.{plain_coefficient, plain_number_if, plain
 use words::row::{load_float, load_word};
 
 // A coefficient of friction or restitution, and the number of its combining rule.
-#[derive(Drop)]
+#[derive(Clone, Copy)]
 pub struct Coefficient {
     pub value: f32,
     pub rule: u32,
 }
 
-#[derive(Drop)]
+#[derive(Clone, Copy)]
 pub enum OptionalCoefficient {
     Given(Coefficient),
     Absent,
 }
 
-#[derive(Drop)]
+#[derive(Clone, Copy)]
 pub enum OptionalFloat {
     Given(f32),
     Absent,
 }
 
 // The body that a collider is attached to (`ColliderOf`), or that a contact names.
-#[derive(Drop)]
+#[derive(Clone, Copy)]
 pub enum OptionalBody {
     Named(u32),
     Unnamed,

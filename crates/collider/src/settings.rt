@@ -12,7 +12,7 @@ use layout::settings::{
 };
 use words::row::load_float;
 
-#[derive(Drop)]
+#[derive(Clone, Copy)]
 pub struct Settings {
     pub step_time: f32,
     pub length_unit: f32,

@@ -10,7 +10,7 @@ use crate::optional::{OptionalCoefficient, OptionalFloat};
 use math::pose::Pose;
 use math::vec::Vec3;
 
-#[derive(Drop)]
+#[derive(Clone, Copy)]
 pub struct Side {
     // The body is there.
     pub present: bool,

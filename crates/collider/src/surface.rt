@@ -1,6 +1,6 @@
 // Rule 7 of one pair's update: friction, restitution and margin of a side, and how two coefficients combine.
 ghost use Rattle.std.specs.Prelude.{◌≡◌, cond, ltb};
-ghost use Rattle.rules.specs.Surface.{or_else, firstGiven, ruled, combine, friction_of, restitution_of, margin_of};
+ghost use Rattle.rules.specs.Surface.{or_else, first_given, ruled, combine, friction_of, restitution_of, margin_of};
 ghost use Rattle.collider.specs.Views.{plain_coefficient, plain_coefficient_if, plain_settings, plain_collider, plain_side};
 
 use crate::collider_record::ColliderRecord;
@@ -17,7 +17,7 @@ fn first_given(
     other: OptionalCoefficient,
     default: Coefficient,
 ) -> Coefficient
-    ensures { plain_coefficient result ≡ or_else (firstGiven (plain_coefficient_if own) (plain_coefficient_if other)) (plain_coefficient default) }
+    ensures { plain_coefficient result ≡ or_else (first_given (plain_coefficient_if own) (plain_coefficient_if other)) (plain_coefficient default) }
 {
     match own {
         OptionalCoefficient::Given(c) => c,

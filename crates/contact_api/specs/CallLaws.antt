@@ -1,5 +1,5 @@
 -- What the public calls ensure is what the C functions promise. Assumes nothing.
-use Rattle.std.specs.Prelude.{ℕ, ◌<◌, ◌≤◌, ◌≡◌, Bool, true, false, cond, ◌&&◌, List, [], ◌∷◌, ◌++◌, eqb, ltb, length, get_or}
+use Rattle.std.specs.Prelude.{ℕ, ◌<◌, ◌≤◌, ◌≡◌, Bool, true, false, cond, List, [], ◌∷◌, ◌++◌, eqb, ltb, length, get_or}
 use Rattle.std.proofs.Math.Path.{refl, ap}
 use Rattle.std.proofs.Common.{sym, subst, ◌∙◌, arith}
 use Rattle.std.proofs.Math.Option.{Option, some, none}
@@ -35,11 +35,11 @@ use Rattle.contact_graph.specs.declared.look_up.LookUpAnswer.{LookUpAnswer}
 use Rattle.contact_graph.specs.declared.look_up.LookUpAnswer.TheVariants as looked
 use Rattle.contact_graph.specs.declared.remove.RemoveAnswer.{RemoveAnswer}
 use Rattle.step.specs.Step as step
-use Rattle.step.specs.Step.{Given, Rows, long, step_refusal, Stepped, plain_answer}
+use Rattle.step.specs.Step.{Given, Rows, step_refusal, Stepped, plain_answer}
 use Rattle.step.specs.declared.answer.StepAnswer.{StepAnswer}
 use Rattle.step.specs.declared.answer.StepAnswer.TheVariants as stepped
 use Rattle.step.specs.declared.answer.StepReport.{StepReport}
-use Rattle.contact_api.specs.Calls.{unless_refused, done_number, id_number, add_number, edge_words, edge_number, look_up_number, report_words, report_number, step_number, refusal_in, numbers_words, kept_words, struct_words, struct_number, struct_row, prune_number, LayOutCalled, RemoveCalled, AddCalled, LookUpCalled, StepCalled, PruneCalled, lengths_number, LengthsCalled, layout_number, LayoutCalled}
+use Rattle.contact_api.specs.Calls.{done_number, id_number, add_number, edge_words, edge_number, look_up_number, report_words, report_number, step_number, refusal_in, numbers_words, kept_words, struct_words, struct_number, struct_row, prune_number, LayOutCalled, RemoveCalled, AddCalled, LookUpCalled, StepCalled, PruneCalled, lengths_number, LengthsCalled, layout_number, LayoutCalled}
 use Rattle.contact_api.specs.Layout.{add_answer_length, look_up_answer_length, step_answer_length, prune_normal_length, prune_answer_length, lengths_length, layout_length, lengths_words, layout_words}
 use Rattle.layout.specs.Request.{request_length}
 

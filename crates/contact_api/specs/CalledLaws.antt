@@ -53,19 +53,19 @@ called_removed {before} {id = id} c =
 
 -- ---- add
 module _ {before request lent after lent' : List ℕ} {r : ℕ} (c : AddCalled before request lent after lent' r) where
-  abbrev addRows : Bool
-  addRows = long request request_length && long lent add_answer_length
+  abbrev add_rows : Bool
+  add_rows = long request request_length && long lent add_answer_length
 
-  add_by : (b : Bool) → addRows ≡ b → add_number before request lent ≡ cond b (add_refusal before (request_of request)) 1
+  add_by : (b : Bool) → add_rows ≡ b → add_number before request lent ≡ cond b (add_refusal before (request_of request)) 1
   unfolding add_number
   add_by b e = ap (λ (t : Bool). cond t (add_refusal before (request_of request)) 1) e
 
   pub called_added : ((long request request_length && long lent add_answer_length ≡ false) × (r ≡ 1) × (after ≡ before) × (lent' ≡ lent))
       ⊎ ((a : AddAnswer) × Added before (request_of request) after a × (r ≡ id_number (add_answer a)) × (lent' ≡ id_row lent (add_answer a)))
-  called_added = go addRows refl
+  called_added = go add_rows refl
     where
-      go : (b : Bool) → addRows ≡ b
-          → ((addRows ≡ false) × (r ≡ 1) × (after ≡ before) × (lent' ≡ lent))
+      go : (b : Bool) → add_rows ≡ b
+          → ((add_rows ≡ false) × (r ≡ 1) × (after ≡ before) × (lent' ≡ lent))
           ⊎ ((a : AddAnswer) × Added before (request_of request) after a × (r ≡ id_number (add_answer a)) × (lent' ≡ id_row lent (add_answer a)))
       go false e = let m = add_by false e in inl (e, c.number ∙ m, c.graph ∙ rw m, c.answer ∙ rw m)
       go true e =
@@ -140,13 +140,13 @@ module _ {x : Given} {g : List ℕ} {l : Rows} {lent g' : List ℕ} {l' : Rows} 
 
 -- ---- prune
 module _ {normal points : List ℕ} {count : ℕ} {lent lent' : List ℕ} {r : ℕ} (c : PruneCalled normal points count lent lent' r) where
-  abbrev pruneRows : Bool
-  pruneRows = long normal prune_normal_length && long lent prune_answer_length
+  abbrev prune_rows : Bool
+  prune_rows = long normal prune_normal_length && long lent prune_answer_length
 
   abbrev told : prune.Answer (List ℕ)
   told = prune_answer (vec3_at normal 0) points count
 
-  prune_by : (b : Bool) → pruneRows ≡ b → prune_number normal points count lent ≡ cond b (refusal_in told) 1
+  prune_by : (b : Bool) → prune_rows ≡ b → prune_number normal points count lent ≡ cond b (refusal_in told) 1
   unfolding prune_number
   prune_by b e = ap (λ (t : Bool). cond t (refusal_in told) 1) e
 
@@ -159,10 +159,10 @@ module _ {normal points : List ℕ} {count : ℕ} {lent lent' : List ℕ} {r : �
 
   pub called_pruned : ((long normal prune_normal_length && long lent prune_answer_length ≡ false) × (r ≡ 1) × (lent' ≡ lent))
       ⊎ ((a : PruneAnswer) × Pruned (vec3_at normal 0) points count a × (r ≡ struct_number (prune.answer_of a)) × (lent' ≡ struct_row lent (prune.answer_of a)))
-  called_pruned = go pruneRows refl
+  called_pruned = go prune_rows refl
     where
-      go : (b : Bool) → pruneRows ≡ b
-          → ((pruneRows ≡ false) × (r ≡ 1) × (lent' ≡ lent))
+      go : (b : Bool) → prune_rows ≡ b
+          → ((prune_rows ≡ false) × (r ≡ 1) × (lent' ≡ lent))
           ⊎ ((a : PruneAnswer) × Pruned (vec3_at normal 0) points count a × (r ≡ struct_number (prune.answer_of a)) × (lent' ≡ struct_row lent (prune.answer_of a)))
       go false e = let m = prune_by false e in inl (e, c.number ∙ m, c.answer ∙ rw m)
       go true e =

@@ -1,9 +1,9 @@
 -- The promises of the C functions: the number that each answers, and every word of the rows that it is lent. Definitions only.
 -- The number is 0 or a refusal's. In a refusal every row is as it was, the one lent for the answer too.
-use Rattle.std.specs.Prelude.{ℕ, ◌≡◌, cond, not, ◌&&◌, List, [], ◌∷◌, ◌++◌, eqb, ltb, leb, length}
+use Rattle.std.specs.Prelude.{ℕ, ◌≡◌, cond, ◌&&◌, List, [], ◌∷◌, ◌++◌, eqb, ltb, leb, length}
 use Rattle.layout.specs.Request.{request_length}
 use Rattle.rules.specs.Limits.{most_contacts, stored_points}
-use Rattle.words.specs.Words.{word_at, float_at, vec3_at, mark_word}
+use Rattle.words.specs.Words.{vec3_at, mark_word}
 use Rattle.manifold_records.specs.Written.{padded}
 use Rattle.contact_records.specs.Written.{optional_words}
 use Rattle.contact_types.specs.Prune as prune
@@ -11,7 +11,6 @@ use Rattle.contact_types.specs.declared.pruning.KeptPoints.{KeptPoints}
 use Rattle.contact_graph.specs.Calls.{request_of, lay_out_refusal, laid_out, add_refusal, new_id_of, added_words, id_refusal, removed_words}
 use Rattle.contact_graph.specs.LookUp.{Edge, edge_of}
 use Rattle.contact_graph.specs.Promises as graph
-use Rattle.contact_graph.specs.declared.call.Request.{Request}
 use Rattle.step.specs.Step as step
 use Rattle.step.specs.Step.{Given, Rows, long, step_refusal, pass_of, rows_of}
 use Rattle.contact_api.specs.Layout.{add_answer_length, step_answer_length, look_up_answer_length, prune_normal_length, prune_answer_length, lengths_length, layout_length, lengths_words, layout_words}

@@ -1,8 +1,8 @@
 -- The C function for a line of a trace, from what its parts answer; its promise has one outcome. Assumes nothing.
-use Rattle.std.specs.Prelude.{ℕ, ◌<◌, ◌≡◌, refl, Bool, true, false, cond, ◌&&◌, List, [], ◌∷◌, length, set}
+use Rattle.std.specs.Prelude.{ℕ, ◌<◌, ◌≡◌, refl, true, false, cond, List, [], ◌∷◌, length, set}
 use Rattle.std.proofs.Common.{arith, sym, ap, subst, ◌∙◌, eqb-true, length-set}
 use Rattle.step.specs.Step.{long}
-use Rattle.trace_player.specs.Played.{Lent, LineAnswer, refused, ended, played, plain_answer, after_line, LinePlayed}
+use Rattle.trace_player.specs.Played.{Lent, plain_answer, after_line, LinePlayed}
 use Rattle.trace_player.specs.PlayLaws.{first_true, second_true}
 use Rattle.trace_player.specs.declared.play.PlayAnswer.{PlayAnswer}
 use Rattle.trace_player.specs.declared.player.Player.{Player}

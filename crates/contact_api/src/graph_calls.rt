@@ -30,15 +30,13 @@ fn lay_out_number(a: LayOutAnswer) -> u32
     }
 }
 
-#[unsafe(no_mangle)]
-pub extern "C" fn sardinerod_lay_out(graph: &mut [u32], capacity: u32) -> u32
+pub fn sardinerod_lay_out(graph: &mut [u32], capacity: u32) -> u32
     ensures { LayOutCalled graph.old capacity graph.new result }
 {
     lay_out_number(lay_out(graph, capacity))
 }
 
-#[unsafe(no_mangle)]
-pub extern "C" fn sardinerod_add(graph: &mut [u32], request: &[u32], answer: &mut [u32]) -> u32
+pub fn sardinerod_add(graph: &mut [u32], request: &[u32], answer: &mut [u32]) -> u32
     ensures { AddCalled graph.old request.now answer.old graph.new answer.new result }
 {
     if request.len() != REQUEST_LENGTH {
@@ -91,8 +89,7 @@ fn edge_words(e: ContactEdge) -> [u32; LOOK_UP_ANSWER_LENGTH]
     ]
 }
 
-#[unsafe(no_mangle)]
-pub extern "C" fn sardinerod_look_up(graph: &[u32], id: u32, answer: &mut [u32]) -> u32
+pub fn sardinerod_look_up(graph: &[u32], id: u32, answer: &mut [u32]) -> u32
     ensures { LookUpCalled graph.now id answer.old answer.new result }
 {
     if answer.len() != LOOK_UP_ANSWER_LENGTH {
@@ -117,8 +114,7 @@ fn remove_number(a: RemoveAnswer) -> u32
     }
 }
 
-#[unsafe(no_mangle)]
-pub extern "C" fn sardinerod_remove(graph: &mut [u32], id: u32) -> u32
+pub fn sardinerod_remove(graph: &mut [u32], id: u32) -> u32
     ensures { RemoveCalled graph.old id graph.new result }
 {
     remove_number(remove(graph, ContactId(id)))

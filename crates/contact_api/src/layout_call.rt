@@ -234,8 +234,7 @@ fn lengths_words(capacity: usize) -> [u32; LENGTHS_LENGTH]
     ]
 }
 
-#[unsafe(no_mangle)]
-pub extern "C" fn sardinerod_lengths(capacity: u32, answer: &mut [u32]) -> u32
+pub fn sardinerod_lengths(capacity: u32, answer: &mut [u32]) -> u32
     ensures { LengthsCalled capacity answer.old answer.new result }
 {
     if answer.len() != LENGTHS_LENGTH {
@@ -258,8 +257,7 @@ fn layout_words() -> [u32; LAYOUT_LENGTH]
     LAYOUT
 }
 
-#[unsafe(no_mangle)]
-pub extern "C" fn sardinerod_layout(answer: &mut [u32]) -> u32
+pub fn sardinerod_layout(answer: &mut [u32]) -> u32
     ensures { LayoutCalled answer.old answer.new result }
 {
     if answer.len() != LAYOUT_LENGTH {

@@ -1,4 +1,6 @@
 // The public calls for C and Rust: words and lengths in, a number out. docs/BUFFERS.md has every row.
+#![tactic(auto)]
+
 pub mod graph_calls;
 pub mod layout_call;
 pub mod prune_call;

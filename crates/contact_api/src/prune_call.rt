@@ -9,13 +9,7 @@ pub const PRUNE_NORMAL_LENGTH: usize = 3;
 
 pub const PRUNE_ANSWER_LENGTH: usize = 5;
 
-#[unsafe(no_mangle)]
-pub extern "C" fn sardinerod_prune(
-    normal: &[u32],
-    points: &[u32],
-    count: u32,
-    answer: &mut [u32],
-) -> u32
+pub fn sardinerod_prune(normal: &[u32], points: &[u32], count: u32, answer: &mut [u32]) -> u32
     ensures { PruneCalled normal.now points.now count answer.old answer.new result }
 {
     if normal.len() != PRUNE_NORMAL_LENGTH {

@@ -8,8 +8,7 @@ use words::row::store_words;
 
 pub const STEP_ANSWER_LENGTH: usize = 3;
 
-#[unsafe(no_mangle)]
-pub extern "C" fn sardinerod_step(
+pub fn sardinerod_step(
     settings: &[u32],
     colliders: &[u32],
     bodies: &[u32],

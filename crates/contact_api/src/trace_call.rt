@@ -78,8 +78,7 @@ fn tell(r: PlayAnswer, player: &mut [u64], answer: &mut [u64]) -> u32
     }
 }
 
-#[unsafe(no_mangle)]
-pub extern "C" fn sardinerod_play_line(
+pub fn sardinerod_play_line(
     trace: &[u8],
     player: &mut [u64],
     graph: &mut [u32],

@@ -1,6 +1,6 @@
 -- An addition to a graph in range leaves one in range. Assumes nothing.
-use Rattle.std.specs.Prelude.{ℕ, ◌+◌, ◌-◌, ◌*◌, ◌≤◌, ◌<◌, ◌≡◌, refl, ◌⊎◌, ◌≢◌, Bool, true, false, not, ◌&&◌, ◌||◌, List, T, eqb, ltb, leb}
-use Rattle.std.proofs.Common.{eq-or-lt_of_le, arith, subst, ◌∙◌, true≢false}
+use Rattle.std.specs.Prelude.{ℕ, ◌+◌, ◌-◌, ◌≤◌, ◌<◌, ◌≡◌, refl, ◌⊎◌, ◌≢◌, Bool, true, false, not, ◌||◌, List}
+use Rattle.std.proofs.Common.{eq-or-lt_of_le, arith, ◌∙◌, true≢false}
 use Rattle.std.proofs.Math.Path.{sym, ap}
 use Rattle.std.proofs.Math.Logic.{inl, inr}
 use borrow.Author.Tests.{lt-ltb, le-leb, eq-eqb, ne_eqb}
@@ -12,7 +12,6 @@ use Rattle.contact_range.specs.Range.{contact_fits, counts_fit, listed_given, na
 use Rattle.contact_range.specs.RangeLaws.{holds, shown, counts, fits_at, stands_at, stands_found, free_at_lem, free_found, listed_given_lem, listed_below, listed_index, free_given_lem, free_not_standing, free_once_lem, given_known_lem, pair_once}
 use Rattle.contact_graph.specs.EffectLaws.{AddEffect, same_or_not}
 use Rattle.contact_range.specs.FitsLaws.{fits_same}
-use Rattle.contact_range.specs.Conditions.{Counts}
 
 -- the new id, the ids then given and the ids then free: the lowest never given where none is free, else the one freed last
 pub data NewId (g : List ℕ) (id m n : ℕ) : Type 0 where

@@ -1,9 +1,9 @@
 -- The words of an addition, and what an addition's tests show. Assumes nothing.
-use Rattle.std.specs.Prelude.{ℕ, suc, ◌+◌, ◌-◌, ◌*◌, ◌≤◌, ◌<◌, ◌≡◌, refl, Bool, true, false, cond, not, ◌&&◌, ◌⊎◌, List, [], ◌∷◌, ◌++◌, T, eqb, ltb, length}
-use Rattle.std.proofs.Common.{arith, sym, ap, subst, ◌∙◌, inl, inr, length-append}
-use Rattle.std.proofs.Math.Option.{Option, none, some}
+use Rattle.std.specs.Prelude.{ℕ, ◌+◌, ◌-◌, ◌≤◌, ◌<◌, ◌≡◌, refl, Bool, true, false, cond, ◌&&◌, List, [], ◌∷◌, ◌++◌, eqb, ltb, length}
+use Rattle.std.proofs.Common.{arith, sym, ap, ◌∙◌, inr}
+use Rattle.std.proofs.Math.Option.{none, some}
 use borrow.Author.Tests.{ltb-true, eqb-true, eqb-false, eq-eqb, ne_eqb}
-use Rattle.rows.specs.Rows.{put, Apart}
+use Rattle.rows.specs.Rows.{put}
 use Rattle.rows.specs.Laws.{put_append, put_put, put_comm, put_next}
 use Rattle.words.specs.Words.{float_word, mark_word}
 use Rattle.contact_types.specs.declared.contact_id.ContactId.{ContactId}
@@ -21,7 +21,6 @@ use Rattle.contact_range.specs.Recorded.{capacity_of, given_of, listed_count, fr
 use Rattle.contact_graph.specs.declared.add.AddAnswer.TheVariants.{Refused}
 use Rattle.contact_graph.specs.declared.add.AddAnswer.TheVariants as answers
 use Rattle.contact_range.specs.Range.{is_mark, right_length, in_range}
-use Rattle.contact_range.specs.Conditions.{RightLength, Counts}
 use Rattle.manifold_records.specs.ListLaws.{length_zeros}
 use Rattle.contact_graph.specs.declared.call.Request.{Request}
 

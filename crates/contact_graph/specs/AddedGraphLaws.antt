@@ -17,13 +17,13 @@ use Rattle.manifold_records.specs.Counts.{Counted}
 use Rattle.manifold_records.specs.ListLaws.{map_upto_next, map_upto_same, get_d_map_upto, length_map_upto}
 use Rattle.manifold_records.specs.Written.{zeros}
 use Rattle.contact_records.specs.ApartLaws.{pair_same}
-use Rattle.contact_records.specs.BackLaws.{pair_held}
+use Rattle.contact_records.proofs.BackLaws.{pair_held}
 use Rattle.layout.specs.Contact.{contact_manifolds, contact_size}
 use Rattle.layout.specs.Graph.{graph_length}
 use Rattle.contact_records.specs.LengthLaws.{length_contact}
 use Rattle.contact_records.specs.HeldLaws.{Holds}
 use Rattle.contact_records.specs.NewLaws.{new_contact, new_fits}
-use Rattle.contact_records.specs.PartLaws.{index_held}
+use Rattle.contact_records.proofs.PartLaws.{index_held}
 use Rattle.contact_records.specs.Recorded.{pair_at}
 use Rattle.contact_records.specs.Written.{contact_words}
 use Rattle.contact_range.specs.Recorded.{capacity_of, given_of, listed_count, free_count, listed_at, free_at, contact_at, graph_of}
@@ -207,8 +207,8 @@ added_in_range {g} a c e = accepted_in_range a c (accepted g a e)
 
 -- ---- the plain graph
 -- the first of a list by index
-pub take-upto {ℓ} : {A : Type ℓ} (f : ℕ → A) (m n : ℕ) → m ≤ n → take m (map f (upto n)) ≡ map f (upto m)
-take-upto f m n h =
+pub take_upto {ℓ} : {A : Type ℓ} (f : ℕ → A) (m n : ℕ) → m ≤ n → take m (map f (upto n)) ≡ map f (upto m)
+take_upto f m n h =
     let l : length (take m (map f (upto n))) ≡ m = length-take m (map f (upto n)) ∙ ap (min m) (length_map_upto f n) ∙ min-eq_left h in
     ext_get_or (f 0) (take m (map f (upto n))) (map f (upto m)) (l ∙ sym (length_map_upto f m))
     (λ i k. let b : i < m = omega arith in
@@ -251,7 +251,7 @@ module _ {g : List ℕ} (a : Request) (c : Checked g) (ok : Accepted g a) where
       let n = counts c.range in
       ap (λ (m : ℕ). map (free_at (added_words g a)) (upto m)) e.freed
       ∙ map_upto_same (free_at (added_words g a)) (free_at g) (free_count g - 1) (λ k l. e.free k (omega arith))
-      ∙ sym (take-upto (free_at g) (free_count g - 1) (free_count g) (omega arith))
+      ∙ sym (take_upto (free_at g) (free_count g - 1) (free_count g) (omega arith))
       ∙ ap (λ (m : ℕ). take (m - 1) (map (free_at g) (upto (free_count g)))) (sym (length_map_upto (free_at g) (free_count g)))
 
   pub given_counted : given_of (added_words g a) ≡ cond (eqb (length (map (free_at g) (upto (free_count g)))) 0) (suc (given_of g)) (given_of g)

@@ -1,8 +1,7 @@
 -- From what the tests of a call show to what the call asks and promises. Assumes nothing.
-use Rattle.std.specs.Prelude.{ℕ, ◌+◌, ◌-◌, ◌*◌, ◌≤◌, ◌<◌, ◌≡◌, refl, Bool, true, false, cond, not, List, [], ◌∷◌, T, eqb, length}
-use Rattle.std.proofs.Common.{arith, sym, ap, subst, ◌∙◌}
+use Rattle.std.specs.Prelude.{ℕ, ◌+◌, ◌-◌, ◌*◌, ◌≤◌, ◌<◌, ◌≡◌, true, false, List, [], ◌∷◌, length}
+use Rattle.std.proofs.Common.{arith, ◌∙◌}
 use Rattle.rows.specs.Rows.{put}
-use Rattle.contact_types.specs.Refusals.{number_of}
 use Rattle.contact_types.specs.declared.refusal.Refusal.TheVariants.{WrongLength, OutOfRange, NoContact}
 use Rattle.layout.specs.Contact.{contact_pair_index}
 use Rattle.contact_graph.specs.Calls.{id_refusal, place_of, removed_words}
@@ -10,9 +9,9 @@ use Rattle.contact_range.specs.Checked.{Checked}
 use Rattle.contact_graph.specs.IdLaws.{given_sum}
 use Rattle.contact_graph.specs.Promises.{Removed}
 use Rattle.contact_range.specs.Range.{right_length, in_range, stands}
-use Rattle.contact_range.specs.RangeLaws.{right_length_lem, in_range_lem, holds, shown, counts, standing_place, standing_below, listed_below, never_given}
-use Rattle.contact_range.specs.Recorded.{capacity_of, given_of, listed_count, free_count, listed_at, contact_at}
-use Rattle.contact_range.specs.Conditions.{RightLength, Counts, Counted, ListedGiven, Standing}
+use Rattle.contact_range.specs.RangeLaws.{right_length_lem, in_range_lem, holds, shown, counts, standing_place, standing_below, listed_below}
+use Rattle.contact_range.specs.Recorded.{capacity_of, listed_count, free_count, listed_at, contact_at}
+use Rattle.contact_range.specs.Conditions.{RightLength, Standing}
 use Rattle.contact_graph.specs.Removing.{GapOf}
 use Rattle.contact_graph.specs.declared.remove.Gap.{Gap}
 use Rattle.contact_graph.specs.declared.remove.RemoveAnswer.TheVariants.{Done, Refused}

@@ -1,17 +1,15 @@
 -- Lay out, add, look up and remove: the answer and every word of the lent graph, in a refusal too. Definitions only.
-use Rattle.std.specs.Prelude.{ℕ, suc, ◌+◌, ◌-◌, ◌≡◌, Bool, true, false, cond, not, ◌&&◌, ◌||◌, List, [], ◌∷◌, eqb, ltb, leb, length}
+use Rattle.std.specs.Prelude.{ℕ, ◌+◌, ◌-◌, Bool, true, false, cond, not, ◌&&◌, List, [], ◌∷◌, eqb, ltb, leb, length}
 use Rattle.std.proofs.Math.Option.{Option, none, some}
 use Rattle.rows.specs.Rows.{put}
 use Rattle.rules.specs.Graph.{Addition, new_pair}
 use Rattle.rules.specs.Limits.{colliders, bodies, most_contacts}
 use Rattle.rules.specs.Numbers.{any}
-use Rattle.rules.specs.Records.{Names, EdgeFlags}
 use Rattle.words.specs.Words.{word_at, float_at}
 use Rattle.manifold_records.specs.Written.{zeros}
 use Rattle.layout.specs.Contact.{contact_pair_index}
 use Rattle.layout.specs.Graph.{graph_free, graph_given, graph_length, graph_list, graph_listed}
 use Rattle.layout.specs.Request.{request_body1, request_body1_number, request_body2, request_body2_number, request_collider1, request_collider2, request_contact_events, request_modify_contacts, request_speculative_distance}
-use Rattle.contact_records.specs.Recorded.{names_at, edge_at}
 use Rattle.contact_records.specs.Written.{contact_words}
 use Rattle.contact_range.specs.Recorded.{capacity_of, given_of, listed_count, free_count, listed_at, free_at, contact_at}
 use Rattle.contact_range.specs.Range.{is_mark, same_colliders, right_length, in_range, stands}

@@ -1,6 +1,6 @@
 -- What an addition's and a removal's stores do to each word that a graph records. Assumes nothing.
-use Rattle.std.specs.Prelude.{ℕ, suc, ◌+◌, ◌-◌, ◌*◌, ◌≤◌, ◌<◌, ◌≡◌, refl, ◌⊎◌, ◌≢◌, Bool, true, false, List, [], ◌∷◌, eqb, ltb, length, get_or}
-use Rattle.std.proofs.Common.{arith, sym, ap, ◌∙◌, inl, inr, ltb-true, ltb-false, eqb-true}
+use Rattle.std.specs.Prelude.{ℕ, ◌+◌, ◌-◌, ◌*◌, ◌≤◌, ◌<◌, ◌≡◌, refl, ◌⊎◌, ◌≢◌, Bool, true, false, List, [], ◌∷◌, eqb, ltb, length, get_or}
+use Rattle.std.proofs.Common.{arith, ap, ◌∙◌, inl, inr, ltb-true, ltb-false, eqb-true}
 use Rattle.std.proofs.lemmas.Bool.{eqb-false}
 use Rattle.rows.specs.Rows.{put}
 use Rattle.rows.specs.Slots.{slot}

@@ -46,9 +46,9 @@ pub same_word : (m n j k u v : ℕ) → j < 4 → k < 4 → u < 18 → v < 18 �
 same_word m n j k u v a b c d e = same_offset 18 j k u v c d (same_offset 81 m n (j * 18 + u) (k * 18 + v) (omega arith) (omega arith) (omega arith))
 
 -- a list twice mapped
-pub map-map {ℓ ℓ'} : {A : Type ℓ} {B : Type ℓ'} (f : A → B) (h : ℕ → A) (l : List ℕ) → map f (map h l) ≡ map (λ k. f (h k)) l
-map-map f h [] = refl
-map-map f h (x ∷ l) = ap (λ r. f (h x) ∷ r) (map-map f h l)
+pub map_map {ℓ ℓ'} : {A : Type ℓ} {B : Type ℓ'} (f : A → B) (h : ℕ → A) (l : List ℕ) → map f (map h l) ≡ map (λ k. f (h k)) l
+map_map f h [] = refl
+map_map f h (x ∷ l) = ap (λ r. f (h x) ∷ r) (map_map f h l)
 
 module _ {g h : List ℕ} (c : Checked g) (w : ImpulsesWritten g h) where
   pub head_kept : (j : ℕ) → j < 4 + 2 * capacity_of g → word_at h j ≡ word_at g j
@@ -214,9 +214,9 @@ module _ {g h : List ℕ} (c : Checked g) (w : ImpulsesWritten g h) where
   pub points_stripped : (i m n : ℕ) → m < 6 → n ≤ 4 → map stripped_point (points_at h (manifold_of h i m + manifold_points) n) ≡ map stripped_point (points_at g (manifold_of g i m + manifold_points) n)
   unfolding points_at
   points_stripped i m n a b =
-      map-map stripped_point (λ k. point_at h (point_of h i m k)) (upto n)
+      map_map stripped_point (λ k. point_at h (point_of h i m k)) (upto n)
       ∙ map_upto_same (λ k. stripped_point (point_at h (point_of h i m k))) (λ k. stripped_point (point_at g (point_of g i m k))) n (λ k l. point_stripped i m k a (omega arith))
-      ∙ sym (map-map stripped_point (λ k. point_at g (point_of g i m k)) (upto n))
+      ∙ sym (map_map stripped_point (λ k. point_at g (point_of g i m k)) (upto n))
 
   pub manifold_stripped : (i m : ℕ) → m < 6 → word_at g (manifold_of g i m) ≤ 4 → stripped_manifold (manifold_at h (manifold_of h i m)) ≡ stripped_manifold (manifold_at g (manifold_of g i m))
   unfolding manifold_at
@@ -237,9 +237,9 @@ module _ {g h : List ℕ} (c : Checked g) (w : ImpulsesWritten g h) where
   manifolds_stripped i f =
       let n = word_at g (contact_at g i + contact_manifolds) in
       ap (λ (m : ℕ). map stripped_manifold (map (λ k. manifold_at h (manifold_of h i k)) (upto m))) (first_words_lem i contact_manifolds (omega arith))
-      ∙ map-map stripped_manifold (λ k. manifold_at h (manifold_of h i k)) (upto n)
+      ∙ map_map stripped_manifold (λ k. manifold_at h (manifold_of h i k)) (upto n)
       ∙ map_upto_same (λ k. stripped_manifold (manifold_at h (manifold_of h i k))) (λ k. stripped_manifold (manifold_at g (manifold_of g i k))) n (λ k l. manifold_stripped i k (omega (arith, f.manifolds)) (f.points k l))
-      ∙ sym (map-map stripped_manifold (λ k. manifold_at g (manifold_of g i k)) (upto n))
+      ∙ sym (map_map stripped_manifold (λ k. manifold_at g (manifold_of g i k)) (upto n))
 
   pub pair_stripped : (i : ℕ) → Fitting g (contact_at g i) → stripped (pair_at h (contact_at h i) i) ≡ stripped (pair_at g (contact_at g i) i)
   unfolding stripped pair_at
@@ -262,10 +262,10 @@ module _ {g h : List ℕ} (c : Checked g) (w : ImpulsesWritten g h) where
         given = given_kept;
         free = ap (λ (n : ℕ). map (free_at h) (upto n)) freed_kept ∙ map_upto_same (free_at h) (free_at g) (free_count g) free_at_lem;
         pairs =
-            ap (λ (n : ℕ). map stripped (map (listed_pair h) (upto n))) listed_kept ∙ map-map stripped (listed_pair h) (upto (listed_count g))
+            ap (λ (n : ℕ). map stripped (map (listed_pair h) (upto n))) listed_kept ∙ map_map stripped (listed_pair h) (upto (listed_count g))
             ∙ map_upto_same (λ p. stripped (listed_pair h p)) (λ p. stripped (listed_pair g p)) (listed_count g)
             (λ p l. ap (λ (i : ℕ). stripped (pair_at h (contact_at h i) i)) (listed_at_lem p l) ∙ pair_stripped (listed_at g p) (listed_fits_lem c.range p l))
-            ∙ sym (map-map stripped (listed_pair g) (upto (listed_count g)));
+            ∙ sym (map_map stripped (listed_pair g) (upto (listed_count g)));
       }
 
   -- ---- one after another

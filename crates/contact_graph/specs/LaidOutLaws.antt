@@ -1,10 +1,10 @@
 -- A graph that was laid out has the right length, is in range, and records an empty graph. Assumes nothing.
-use Prim.Native.Nat.{ℕ, zero, suc, ◌+◌, ◌-◌, ◌*◌, ◌≤◌, ◌<◌}
+use Prim.Native.Nat.{ℕ, zero, suc, ◌-◌, ◌≤◌, ◌<◌}
 use native.Mathlib.Omega.{arith}
 use Rattle.std.specs.Prelude.{◌≡◌, Bool, true, length, get_or}
 use Rattle.std.proofs.Math.Path.{refl, ap}
 use Rattle.std.proofs.Common.{sym, ◌∙◌}
-use mathlib.Core.List.{List, [], ◌∷◌, map}
+use mathlib.Core.List.{List, map}
 use borrow.Author.Tests.{lt-ltb, le-leb, eq-eqb}
 use Rattle.rows.specs.Slots.{upto}
 use Rattle.rules.specs.Graph.{empty_graph}

@@ -1,6 +1,5 @@
 -- What a look up answers: the edge of a contact as a plain value. Definitions only.
 use Rattle.std.specs.Prelude.{ℕ, ◌+◌, ◌≡◌, List}
-use Rattle.std.proofs.Math.Option.{Option, none, some}
 use Rattle.rules.specs.Records.{Names, EdgeFlags}
 use Rattle.words.specs.Words.{word_at}
 use Rattle.layout.specs.Contact.{contact_edge_flags, contact_pair_index}

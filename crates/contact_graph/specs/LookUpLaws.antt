@@ -1,14 +1,13 @@
 -- An edge made of what was read, and the promise of a look up. Assumes nothing.
 use Rattle.std.specs.Prelude.{ℕ, ◌+◌, ◌≡◌, Bool, true, false, List, eqb}
 use Rattle.std.proofs.Common.{ap, ◌∙◌}
-use Rattle.std.proofs.Math.Option.{Option}
 use Rattle.contact_types.specs.declared.refusal.Refusal.TheVariants.{WrongLength, OutOfRange, NoContact}
 use Rattle.words.specs.Words.{word_at}
-use Rattle.contact_records.specs.Recorded.{optional_at, names_at, edge_at}
+use Rattle.contact_records.specs.Recorded.{names_at, edge_at}
 use Rattle.collider.specs.Recorded.{number_if_at}
 use Rattle.collider.specs.Views.{plain_number_if}
 use Rattle.contact_graph.specs.CallLaws.{id_length, id_range, id_none, id_found}
-use Rattle.contact_graph.specs.LookUp.{edge_value, edge_in, EdgeLoaded, edge_of}
+use Rattle.contact_graph.specs.LookUp.{edge_value, edge_in, EdgeLoaded}
 use Rattle.contact_graph.specs.Promises.{LookedUp, found}
 use Rattle.contact_types.specs.declared.contact_id.ContactId.{ContactId}
 use Rattle.contact_range.specs.Range.{right_length, in_range, stands}

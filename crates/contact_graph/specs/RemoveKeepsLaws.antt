@@ -1,6 +1,6 @@
 -- A removal from a graph in range leaves one in range. Assumes nothing.
-use Rattle.std.specs.Prelude.{ℕ, ◌+◌, ◌-◌, ◌*◌, ◌≤◌, ◌<◌, ◌≡◌, refl, ◌⊎◌, ◌≢◌, Bool, true, false, not, ◌&&◌, ◌||◌, List, T, eqb}
-use Rattle.std.proofs.Common.{eq-or-lt_of_le, subst, ◌∙◌, true≢false}
+use Rattle.std.specs.Prelude.{ℕ, ◌+◌, ◌-◌, ◌≤◌, ◌<◌, ◌≡◌, refl, ◌⊎◌, ◌≢◌, Bool, true, false, ◌&&◌, ◌||◌, List, eqb}
+use Rattle.std.proofs.Common.{eq-or-lt_of_le, ◌∙◌, true≢false}
 use native.Mathlib.Omega.{arith}
 use Rattle.std.proofs.Math.Path.{sym, ap}
 use Rattle.std.proofs.Math.Logic.{inl, inr}
@@ -9,12 +9,12 @@ use Rattle.rule_laws.specs.NumberLaws.{every_all}
 use Rattle.words.specs.Words.{word_at}
 use Rattle.layout.specs.Contact.{contact_pair_index, contact_size}
 use Rattle.contact_range.specs.Recorded.{capacity_of, given_of, listed_count, free_count, listed_at, free_at, contact_at}
-use Rattle.contact_range.specs.Range.{contact_fits, counts_fit, listed_given, names_back, contacts_fit, free_given, free_once, stands, is_free, free_apart, given_known, same_colliders, same_pair, pairs_once, InRange}
-use Rattle.contact_range.specs.RangeLaws.{holds, shown, counts, back_at, fits_at, stands_at, stands_found, free_at_lem, free_found, listed_given_lem, listed_below, listed_index, listed_once, standing_given, free_given_lem, free_not_standing, free_once_lem, given_known_lem, pair_once}
+use Rattle.contact_range.specs.Range.{counts_fit, listed_given, names_back, contacts_fit, free_given, free_once, stands, is_free, free_apart, given_known, same_colliders, same_pair, pairs_once, InRange}
+use Rattle.contact_range.specs.RangeLaws.{holds, shown, counts, back_at, fits_at, stands_at, stands_found, free_at_lem, free_found, listed_given_lem, listed_below, listed_index, listed_once, free_given_lem, free_not_standing, free_once_lem, given_known_lem, pair_once}
 use Rattle.contact_graph.specs.IdLaws.{listed_not_free, given_sum}
 use Rattle.contact_graph.specs.EffectLaws.{RemoveEffect, differ, same_or_not}
 use Rattle.contact_range.specs.FitsLaws.{fits_same}
-use Rattle.contact_range.specs.Conditions.{Counts, index_at}
+use Rattle.contact_range.specs.Conditions.{index_at}
 use Rattle.contact_graph.specs.AddKeepsLaws.{not_true, or_left, or_right}
 
 -- two numbers are equal either way round

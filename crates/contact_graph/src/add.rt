@@ -25,7 +25,7 @@ use layout::limits::{BODIES, COLLIDERS};
 use math::bits::bits_of;
 use words::row::{load_word, store_word, store_words};
 
-#[derive(Drop)]
+#[derive(Clone, Copy)]
 pub enum AddAnswer {
     Added(ContactId),
     Refused(Refusal),

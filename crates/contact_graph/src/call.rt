@@ -18,7 +18,7 @@ use layout::request::{
 use words::row::{load_float, load_word};
 
 // What an addition carries. Marks are numbers, so that one that is neither 0 nor 1 can be refused.
-#[derive(Drop)]
+#[derive(Clone, Copy)]
 pub struct Request {
     pub collider1: u32,
     pub collider2: u32,
@@ -50,7 +50,7 @@ pub fn load_request(words: &[u32]) -> Request
 }
 
 // The edge of a contact, by value.
-#[derive(Drop)]
+#[derive(Clone, Copy)]
 pub struct ContactEdge {
     pub id: ContactId,
     pub collider1: u32,

@@ -10,7 +10,7 @@ use layout::contact::CONTACT_SIZE;
 use layout::graph::{GRAPH_CAPACITY, GRAPH_LIST};
 use layout::limits::MOST_CONTACTS;
 
-#[derive(Drop)]
+#[derive(Clone, Copy)]
 pub enum LayOutAnswer {
     Done,
     Refused(Refusal),

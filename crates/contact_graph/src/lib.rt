@@ -1,4 +1,6 @@
 // The contact graph in a lent row of words. From avian's contact_types/contact_graph.rs and data_structures/graph.rs.
+#![tactic(auto)]
+
 pub mod add;
 pub mod call;
 pub mod lay_out;

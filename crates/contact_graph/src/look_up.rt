@@ -17,7 +17,7 @@ use layout::contact::{
 };
 use words::row::load_word;
 
-#[derive(Drop)]
+#[derive(Clone, Copy)]
 pub enum LookUpAnswer {
     Found(ContactEdge),
     Refused(Refusal),

@@ -17,14 +17,14 @@ use layout::contact::CONTACT_PAIR_INDEX;
 use layout::graph::{GRAPH_CAPACITY, GRAPH_FREED, GRAPH_LIST, GRAPH_LISTED};
 use words::row::{load_word, store_word};
 
-#[derive(Drop)]
+#[derive(Clone, Copy)]
 pub enum RemoveAnswer {
     Done,
     Refused(Refusal),
 }
 
 // Where a removal stores, and what: the last listed contact's id at the gap, the gap's place in that contact's record.
-#[derive(Drop)]
+#[derive(Clone, Copy)]
 pub struct Gap {
     pub list_at: usize,
     pub last: ContactId,

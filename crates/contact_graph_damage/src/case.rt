@@ -6,46 +6,48 @@ use contact_graph::add::{AddAnswer, add};
 use contact_graph::look_up::{LookUpAnswer, look_up};
 use contact_graph::remove::{RemoveAnswer, remove};
 use contact_types::contact_id::ContactId;
+use std::io;
+use std::io::Write;
 
-fn print_found(answer: LookUpAnswer) {
+fn print_found<W: Write>(out: &mut W, answer: LookUpAnswer) -> io::Result<()> {
     match answer {
         LookUpAnswer::Found(e) => {
-            print_name(b"\tedge");
-            print_count(e.collider1);
-            print_count(e.collider2);
+            print_name(out, b"\tedge")?;
+            print_count(out, e.collider1)?;
+            print_count(out, e.collider2)
         }
-        LookUpAnswer::Refused(r) => print_refused(r.number()),
+        LookUpAnswer::Refused(r) => print_refused(out, r.number()),
     }
 }
 
-fn print_added(answer: AddAnswer) {
+fn print_added<W: Write>(out: &mut W, answer: AddAnswer) -> io::Result<()> {
     match answer {
         AddAnswer::Added(id) => {
-            print_name(b"\tid");
-            print_count(id.0);
+            print_name(out, b"\tid")?;
+            print_count(out, id.0)
         }
-        AddAnswer::Refused(r) => print_refused(r.number()),
+        AddAnswer::Refused(r) => print_refused(out, r.number()),
     }
 }
 
-fn print_removed(answer: RemoveAnswer) {
+fn print_removed<W: Write>(out: &mut W, answer: RemoveAnswer) -> io::Result<()> {
     match answer {
-        RemoveAnswer::Done => print_name(b"\tdone"),
-        RemoveAnswer::Refused(r) => print_refused(r.number()),
+        RemoveAnswer::Done => print_name(out, b"\tdone"),
+        RemoveAnswer::Refused(r) => print_refused(out, r.number()),
     }
 }
 
-fn print_answers(graph: &mut [u32]) {
-    print_found(look_up(graph, ContactId(0)));
-    print_added(add(graph, request(70, 80, 1)));
-    print_removed(remove(graph, ContactId(0)));
+fn print_answers<W: Write>(out: &mut W, graph: &mut [u32]) -> io::Result<()> {
+    print_found(out, look_up(graph, ContactId(0)))?;
+    print_added(out, add(graph, request(70, 80, 1)))?;
+    print_removed(out, remove(graph, ContactId(0)))
 }
 
-fn print_same(same: bool) {
+fn print_same<W: Write>(out: &mut W, same: bool) -> io::Result<()> {
     if same {
-        print_name(b"\tsame");
+        print_name(out, b"\tsame")
     } else {
-        print_name(b"\tchanged");
+        print_name(out, b"\tchanged")
     }
 }
 
@@ -56,17 +58,23 @@ fn damage(graph: &mut [u32], words: &[u32], from: u32, end: u32) {
 }
 
 // Changed by `words`, and filled from a place on as far as another.
-pub fn print_filled(name: &[u8], words: &[u32], from: u32, end: u32) {
+pub fn print_filled<W: Write>(
+    out: &mut W,
+    name: &[u8],
+    words: &[u32],
+    from: u32,
+    end: u32,
+) -> io::Result<()> {
     let mut graph = [0u32; GRAPH_LENGTH];
     let mut before = [0u32; GRAPH_LENGTH];
     damage(&mut graph, words, from, end);
     damage(&mut before, words, from, end);
-    print_name(name);
-    print_answers(&mut graph);
-    print_same(same(&graph, &before));
-    print_end();
+    print_name(out, name)?;
+    print_answers(out, &mut graph)?;
+    print_same(out, same(&graph, &before))?;
+    print_end(out)
 }
 
-pub fn print_case(name: &[u8], words: &[u32]) {
-    print_filled(name, words, 0, 0);
+pub fn print_case<W: Write>(out: &mut W, name: &[u8], words: &[u32]) -> io::Result<()> {
+    print_filled(out, name, words, 0, 0)
 }

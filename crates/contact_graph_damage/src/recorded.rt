@@ -17,6 +17,8 @@ use case_draws::numbers::{
 };
 use layout::contact::MARKS_SIZE;
 use layout::limits::{BODIES, COLLIDERS};
+use std::io;
+use std::io::Write;
 
 // Of a record: the bodies', those of edge and pair, the cache's.
 const MARKS_COUNT: usize = 3 + MARKS_SIZE;
@@ -39,60 +41,77 @@ const MARKS: [u32; MARKS_COUNT] = [
 ];
 
 // Refusal 1, which comes before 2.
-pub fn print_capacities() {
-    print_case(b"capacity 0", &[GRAPH_CAPACITY, 0]);
-    print_case(b"capacity 3", &[GRAPH_CAPACITY, 3]);
-    print_case(b"capacity 5", &[GRAPH_CAPACITY, 5]);
-    print_case(b"capacity 257", &[GRAPH_CAPACITY, TOO_MANY_CONTACTS]);
+pub fn print_capacities<W: Write>(out: &mut W) -> io::Result<()> {
+    print_case(out, b"capacity 0", &[GRAPH_CAPACITY, 0])?;
+    print_case(out, b"capacity 3", &[GRAPH_CAPACITY, 3])?;
+    print_case(out, b"capacity 5", &[GRAPH_CAPACITY, 5])?;
+    print_case(out, b"capacity 257", &[GRAPH_CAPACITY, TOO_MANY_CONTACTS])?;
     print_case(
+        out,
         b"largest capacity, a collider too",
         &[GRAPH_CAPACITY, LARGEST, COLLIDER1_0, COLLIDERS],
-    );
+    )
 }
 
-pub fn print_numbers() {
-    print_case(b"collider 1", &[COLLIDER1_0, COLLIDERS]);
-    print_case(b"collider 2", &[COLLIDER2_0, COLLIDERS]);
-    print_case(b"collider 1 of the last", &[COLLIDER1_2, COLLIDERS]);
-    print_case(b"largest collider 2 of the last", &[COLLIDER2_2, LARGEST]);
-    print_case(b"body 1", &[BODY1_NUMBER_0, BODIES]);
-    print_case(b"body 1 of the last", &[BODY1_NUMBER_2, BODIES]);
-    print_case(b"body 2 of the last", &[BODY2_NUMBER_2, BODIES]);
-    print_case(b"body 2 by a mark", &[BODY2_0, 1, BODY2_NUMBER_0, BODIES]);
+pub fn print_numbers<W: Write>(out: &mut W) -> io::Result<()> {
+    print_case(out, b"collider 1", &[COLLIDER1_0, COLLIDERS])?;
+    print_case(out, b"collider 2", &[COLLIDER2_0, COLLIDERS])?;
+    print_case(out, b"collider 1 of the last", &[COLLIDER1_2, COLLIDERS])?;
+    print_case(
+        out,
+        b"largest collider 2 of the last",
+        &[COLLIDER2_2, LARGEST],
+    )?;
+    print_case(out, b"body 1", &[BODY1_NUMBER_0, BODIES])?;
+    print_case(out, b"body 1 of the last", &[BODY1_NUMBER_2, BODIES])?;
+    print_case(out, b"body 2 of the last", &[BODY2_NUMBER_2, BODIES])?;
+    print_case(
+        out,
+        b"body 2 by a mark",
+        &[BODY2_0, 1, BODY2_NUMBER_0, BODIES],
+    )
 }
 
-fn print_mark(name: &[u8], at: u32, k: u32) {
-    print_name(name);
-    print_count(k);
-    print_case(b"", &[std::num::wrapping_add_u32(at, k), 2]);
+fn print_mark<W: Write>(out: &mut W, name: &[u8], at: u32, k: u32) -> io::Result<()> {
+    print_name(out, name)?;
+    print_count(out, k)?;
+    print_case(out, b"", &[at.wrapping_add(k), 2])
 }
 
 // Each mark of the record that begins at a place.
-fn print_record_marks(name: &[u8], at: u32) {
+fn print_record_marks<W: Write>(out: &mut W, name: &[u8], at: u32) -> io::Result<()> {
     let mut k = 0;
     while k < MARKS_COUNT {
-        print_mark(name, at, MARKS[k]);
+        print_mark(out, name, at, MARKS[k])?;
         k += 1;
     }
+    Ok(())
 }
 
-pub fn print_marks() {
-    print_record_marks(b"mark", RECORD_0);
-    print_record_marks(b"mark of the last", RECORD_2);
+pub fn print_marks<W: Write>(out: &mut W) -> io::Result<()> {
+    print_record_marks(out, b"mark", RECORD_0)?;
+    print_record_marks(out, b"mark of the last", RECORD_2)
 }
 
-pub fn print_counts() {
-    print_case(b"7 manifolds", &[MANIFOLDS_0, TOO_MANY_MANIFOLDS]);
+pub fn print_counts<W: Write>(out: &mut W) -> io::Result<()> {
+    print_case(out, b"7 manifolds", &[MANIFOLDS_0, TOO_MANY_MANIFOLDS])?;
     print_case(
+        out,
         b"7 manifolds of the last",
         &[MANIFOLDS_2, TOO_MANY_MANIFOLDS],
-    );
-    print_case(b"5 points", &[MANIFOLDS_0, 1, POINTS_0, TOO_MANY_POINTS]);
+    )?;
     print_case(
+        out,
+        b"5 points",
+        &[MANIFOLDS_0, 1, POINTS_0, TOO_MANY_POINTS],
+    )?;
+    print_case(
+        out,
         b"5 points in manifold 6",
         &[MANIFOLDS_0, MANIFOLDS, POINTS_5, TOO_MANY_POINTS],
-    );
+    )?;
     print_case(
+        out,
         b"5 given, all known",
         &[
             GRAPH_GIVEN,
@@ -104,28 +123,31 @@ pub fn print_counts() {
             FREE_2,
             4,
         ],
-    );
-    print_case(b"5 listed", &[GRAPH_LISTED, OVER_CAPACITY]);
-    print_case(b"5 free", &[GRAPH_FREED, OVER_CAPACITY]);
-    print_case(b"largest given", &[GRAPH_GIVEN, LARGEST]);
-    print_case(b"largest listed", &[GRAPH_LISTED, LARGEST]);
-    print_case(b"largest free", &[GRAPH_FREED, LARGEST]);
+    )?;
+    print_case(out, b"5 listed", &[GRAPH_LISTED, OVER_CAPACITY])?;
+    print_case(out, b"5 free", &[GRAPH_FREED, OVER_CAPACITY])?;
+    print_case(out, b"largest given", &[GRAPH_GIVEN, LARGEST])?;
+    print_case(out, b"largest listed", &[GRAPH_LISTED, LARGEST])?;
+    print_case(out, b"largest free", &[GRAPH_FREED, LARGEST])
 }
 
-pub fn print_ids() {
-    print_case(b"free twice", &[GRAPH_FREED, 2, FREE_1, 1]);
-    print_case(b"free and standing", &[GRAPH_FREED, 2, FREE_1, 0]);
+pub fn print_ids<W: Write>(out: &mut W) -> io::Result<()> {
+    print_case(out, b"free twice", &[GRAPH_FREED, 2, FREE_1, 1])?;
+    print_case(out, b"free and standing", &[GRAPH_FREED, 2, FREE_1, 0])?;
     print_case(
+        out,
         b"free and listed",
         &[GRAPH_LISTED, 3, LIST_2, 1, PAIR_INDEX_1, 2],
-    );
+    )?;
     print_case(
+        out,
         b"free and listed, another's place",
         &[GRAPH_LISTED, 3, LIST_2, 1, PAIR_INDEX_1, 0],
-    );
-    print_case(b"neither, none free", &[GRAPH_FREED, 0]);
-    print_case(b"neither, one more given", &[GRAPH_GIVEN, 4]);
+    )?;
+    print_case(out, b"neither, none free", &[GRAPH_FREED, 0])?;
+    print_case(out, b"neither, one more given", &[GRAPH_GIVEN, 4])?;
     print_case(
+        out,
         b"listed, never given",
         &[
             GRAPH_LISTED,
@@ -139,16 +161,21 @@ pub fn print_ids() {
             PAIR_INDEX_3,
             2,
         ],
-    );
-    print_case(b"largest listed id", &[LIST_1, LARGEST]);
-    print_case(b"free, never given", &[GRAPH_FREED, 2, FREE_1, 3]);
-    print_case(b"largest free id", &[GRAPH_FREED, 2, FREE_1, LARGEST]);
+    )?;
+    print_case(out, b"largest listed id", &[LIST_1, LARGEST])?;
+    print_case(out, b"free, never given", &[GRAPH_FREED, 2, FREE_1, 3])?;
+    print_case(out, b"largest free id", &[GRAPH_FREED, 2, FREE_1, LARGEST])
 }
 
-pub fn print_pairs() {
-    print_case(b"pair twice", &[COLLIDER1_2, 10, COLLIDER2_2, 20]);
-    print_case(b"pair twice, turned", &[COLLIDER1_2, 20, COLLIDER2_2, 10]);
+pub fn print_pairs<W: Write>(out: &mut W) -> io::Result<()> {
+    print_case(out, b"pair twice", &[COLLIDER1_2, 10, COLLIDER2_2, 20])?;
     print_case(
+        out,
+        b"pair twice, turned",
+        &[COLLIDER1_2, 20, COLLIDER2_2, 10],
+    )?;
+    print_case(
+        out,
         b"lone collider twice",
         &[
             COLLIDER1_0,
@@ -160,10 +187,10 @@ pub fn print_pairs() {
             COLLIDER2_2,
             7,
         ],
-    );
-    print_case(b"place of the other", &[PAIR_INDEX_0, 1]);
-    print_case(b"place past the list", &[PAIR_INDEX_0, 2]);
-    print_case(b"largest place", &[PAIR_INDEX_2, LARGEST]);
-    print_case(b"listed twice", &[LIST_1, 0]);
-    print_case(b"list turned", &[GRAPH_LIST, 2, LIST_1, 0]);
+    )?;
+    print_case(out, b"place of the other", &[PAIR_INDEX_0, 1])?;
+    print_case(out, b"place past the list", &[PAIR_INDEX_0, 2])?;
+    print_case(out, b"largest place", &[PAIR_INDEX_2, LARGEST])?;
+    print_case(out, b"listed twice", &[LIST_1, 0])?;
+    print_case(out, b"list turned", &[GRAPH_LIST, 2, LIST_1, 0])
 }

@@ -9,6 +9,8 @@ use case_draws::numbers::{
 };
 use layout::contact::CONTACT_SIZE;
 use layout::graph::{GRAPH_FREED, GRAPH_GIVEN, GRAPH_LISTED};
+use std::io;
+use std::io::Write;
 
 pub const CAPACITY: u32 = 8;
 
@@ -24,12 +26,13 @@ fn word(graph: &[u32], at: usize) -> u32 {
     if at < graph.len() { graph[at] } else { 0 }
 }
 
-fn print_ids(graph: &[u32], from: u32, count: u32) {
+fn print_ids<W: Write>(out: &mut W, graph: &[u32], from: u32, count: u32) -> io::Result<()> {
     let mut k = 0;
     while k < count {
-        print_count(word(graph, from as usize + k as usize));
+        print_count(out, word(graph, from as usize + k as usize))?;
         k += 1;
     }
+    Ok(())
 }
 
 fn record_word(graph: &[u32], id: u32, k: u32) -> u32 {
@@ -79,17 +82,17 @@ fn records_sum(graph: &[u32], count: u32) -> u32 {
     sum
 }
 
-pub fn print_recorded(graph: &[u32]) {
+pub fn print_recorded<W: Write>(out: &mut W, graph: &[u32]) -> io::Result<()> {
     let listed = word(graph, GRAPH_LISTED);
     let freed = word(graph, GRAPH_FREED);
-    print_name(b"\tgraph");
-    print_count(word(graph, GRAPH_GIVEN));
-    print_count(listed);
-    print_count(freed);
-    print_name(b"\tlist");
-    print_ids(graph, GRAPH_LIST, listed);
-    print_name(b"\tfree");
-    print_ids(graph, FREE_PLACE, freed);
-    print_name(b"\trecords");
-    print_count(records_sum(graph, listed));
+    print_name(out, b"\tgraph")?;
+    print_count(out, word(graph, GRAPH_GIVEN))?;
+    print_count(out, listed)?;
+    print_count(out, freed)?;
+    print_name(out, b"\tlist")?;
+    print_ids(out, graph, GRAPH_LIST, listed)?;
+    print_name(out, b"\tfree")?;
+    print_ids(out, graph, FREE_PLACE, freed)?;
+    print_name(out, b"\trecords")?;
+    print_count(out, records_sum(graph, listed))
 }

@@ -6,6 +6,8 @@ use contact_graph::add::{AddAnswer, add};
 use contact_graph::call::Request;
 use contact_graph::lay_out::lay_out;
 use layout::limits::COLLIDERS;
+use std::io;
+use std::io::Write;
 
 // The graph's lengths for no contact, for 1, for the most, and for one more than these.
 const FOR_NONE: usize = GRAPH_LIST as usize;
@@ -27,33 +29,33 @@ const ALMOST_ALL: u32 = MOST_CONTACTS - 1;
 
 const HALF: u32 = COLLIDERS / 2;
 
-fn print_lay_out(graph: &mut [u32], capacity: u32) {
-    print_name(b"lay_out");
-    print_count(capacity);
-    print_laid_out(lay_out(graph, capacity));
-    print_end();
+fn print_lay_out<W: Write>(out: &mut W, graph: &mut [u32], capacity: u32) -> io::Result<()> {
+    print_name(out, b"lay_out")?;
+    print_count(out, capacity)?;
+    print_laid_out(out, lay_out(graph, capacity))?;
+    print_end(out)
 }
 
 // The length for 1, that for 0, and one word less and one more than that for 1.
-pub fn print_refused() {
+pub fn print_refused<W: Write>(out: &mut W) -> io::Result<()> {
     let mut one = [0u32; FOR_ONE];
-    print_lay_out(&mut one, 1);
-    print_lay_out(&mut one, 0);
-    print_lay_out(&mut one, 2);
-    print_lay_out(&mut one, 4294967295);
+    print_lay_out(out, &mut one, 1)?;
+    print_lay_out(out, &mut one, 0)?;
+    print_lay_out(out, &mut one, 2)?;
+    print_lay_out(out, &mut one, 4294967295)?;
     let mut none = [0u32; FOR_NONE];
-    print_lay_out(&mut none, 0);
+    print_lay_out(out, &mut none, 0)?;
     let mut less = [0u32; LESS];
-    print_lay_out(&mut less, 1);
+    print_lay_out(out, &mut less, 1)?;
     let mut more = [0u32; MORE];
-    print_lay_out(&mut more, 1);
+    print_lay_out(out, &mut more, 1)
 }
 
 // The length for one more than the most.
-pub fn print_too_large() {
+pub fn print_too_large<W: Write>(out: &mut W) -> io::Result<()> {
     let mut graph = [0u32; FOR_TOO_MANY];
-    print_lay_out(&mut graph, TOO_MANY_CONTACTS);
-    print_lay_out(&mut graph, MOST_CONTACTS);
+    print_lay_out(out, &mut graph, TOO_MANY_CONTACTS)?;
+    print_lay_out(out, &mut graph, MOST_CONTACTS)
 }
 
 // The c-th of many pairs.
@@ -91,12 +93,12 @@ fn fill(graph: &mut [u32]) -> u32 {
     count
 }
 
-pub fn print_full() {
+pub fn print_full<W: Write>(out: &mut W) -> io::Result<()> {
     let mut graph = [0u32; FOR_MOST];
-    print_lay_out(&mut graph, MOST_CONTACTS);
-    print_name(b"fill");
-    print_count(fill(&mut graph));
-    print_added(add(&mut graph, nth(ALMOST_ALL)));
-    print_added(add(&mut graph, nth(MOST_CONTACTS)));
-    print_end();
+    print_lay_out(out, &mut graph, MOST_CONTACTS)?;
+    print_name(out, b"fill")?;
+    print_count(out, fill(&mut graph))?;
+    print_added(out, add(&mut graph, nth(ALMOST_ALL)))?;
+    print_added(out, add(&mut graph, nth(MOST_CONTACTS)))?;
+    print_end(out)
 }

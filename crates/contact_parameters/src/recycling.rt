@@ -93,7 +93,7 @@ pub fn recycle(s: Settings, touching: bool, a: Side, b: Side, cache: RecyclingCa
 }
 
 // How far the two bodies have turned and moved since the cache was made: once for a pair.
-#[derive(Drop)]
+#[derive(Clone, Copy)]
 pub struct Motion {
     pub turn1: Mat3,
     pub turn2: Mat3,

@@ -10,7 +10,7 @@ use collider::settings::Settings;
 use collider::side::Side;
 use collider::surface::{combine, friction_of, margin_of, restitution_of};
 
-#[derive(Drop)]
+#[derive(Clone, Copy)]
 pub struct Surface {
     pub friction: f32,
     pub restitution: f32,

@@ -1,6 +1,6 @@
 -- Whether a contact's record is in range depends on its own words alone, and not on its place in the list. Assumes nothing.
-use Rattle.std.specs.Prelude.{ℕ, ◌+◌, ◌*◌, ◌≤◌, ◌<◌, ◌≡◌, ◌≢◌, Bool, true, false, cond, ◌&&◌, List, eqb}
-use Rattle.std.proofs.Common.{arith, sym, ◌∙◌, leb-true}
+use Rattle.std.specs.Prelude.{ℕ, ◌+◌, ◌*◌, ◌<◌, ◌≡◌, ◌≢◌, Bool, true, false, cond, ◌&&◌, List, eqb}
+use Rattle.std.proofs.Common.{arith, ◌∙◌, leb-true}
 use Rattle.std.proofs.Math.Path.{refl, ap}
 use Rattle.std.proofs.Math.Dec.{ltb, leb}
 use Rattle.rules.specs.Limits.{stored_points, pair_manifolds, colliders, bodies}

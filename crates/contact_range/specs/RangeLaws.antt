@@ -4,12 +4,12 @@ use Rattle.std.proofs.Math.Path.{refl}
 use Rattle.std.proofs.Common.{sym, ap, subst, ◌∙◌, arith, true≢false}
 use Rattle.std.proofs.Math.Bool.{true, false, not}
 use Rattle.std.proofs.Math.Logic.{inl, inr}
-use borrow.Author.Tests.{ltb-true, leb-true, eqb-true, eqb-false, lt-ltb, eq-eqb, not_true}
+use borrow.Author.Tests.{ltb-true, leb-true, eqb-true, eqb-false, lt-ltb, eq-eqb, not-true}
 use Rattle.rules.specs.Limits.{stored_points, pair_manifolds, colliders, bodies, most_contacts}
 use Rattle.rules.specs.Numbers.{every}
 use Rattle.rule_laws.specs.NumberLaws.{every_at, any_at, any_found}
 use Rattle.words.specs.Words.{word_at}
-use Rattle.layout.specs.Contact.{contact_body1, contact_body2, contact_cache, contact_edge_flags, contact_manifolds, contact_pair_index, contact_size}
+use Rattle.layout.specs.Contact.{contact_body1, contact_body2, contact_cache, contact_edge_flags, contact_manifolds}
 use Rattle.layout.specs.Graph.{graph_length}
 use Rattle.layout.specs.Manifold.{manifold_size}
 use Rattle.contact_range.specs.Recorded.{capacity_of, given_of, listed_count, free_count, listed_at, free_at, contact_at}
@@ -273,13 +273,13 @@ module _ {g : List ℕ} (r : InRange g) where
 
   pub free_not_standing : (k : ℕ) → k < free_count g → stands g (free_at g k) ≡ false
   unfolding free_apart
-  free_not_standing k h = not_true (stands g (free_at g k)) (every_at (λ j. not (stands g (free_at g j))) (free_count g) k (holds (free_apart g) r.apart) h)
+  free_not_standing k h = not-true (stands g (free_at g k)) (every_at (λ j. not (stands g (free_at g j))) (free_count g) k (holds (free_apart g) r.apart) h)
 
   free_differs : (j k : ℕ) → j < k → k < free_count g → free_at g j ≡ free_at g k → ⊥
   unfolding free_once
   free_differs j k h l =
       eqb-false (free_at g j) (free_at g k)
-      (not_true (eqb (free_at g j) (free_at g k))
+      (not-true (eqb (free_at g j) (free_at g k))
       (every_at (λ i. not (eqb (free_at g i) (free_at g k))) k j
       (every_at (λ n. every (λ i. not (eqb (free_at g i) (free_at g n))) n) (free_count g) k (holds (free_once g) r.once) l) h))
 
@@ -303,6 +303,6 @@ module _ {g : List ℕ} (r : InRange g) where
   pub pair_once : (p q : ℕ) → p < q → q < listed_count g → same_pair g p q ≡ false
   unfolding pairs_once
   pair_once p q h l =
-      not_true (same_pair g p q)
+      not-true (same_pair g p q)
       (every_at (λ i. not (same_pair g i q)) q p
       (every_at (λ n. every (λ i. not (same_pair g i n)) n) (listed_count g) q (holds (pairs_once g) r.pairs) l) h)

@@ -2,7 +2,7 @@
 use Rattle.std.specs.Prelude.{◌≡◌, refl, ℕ, zero, suc, ◌+◌, ◌*◌, ◌/◌, ◌%◌, ◌≤◌, ◌<◌, ◌^◌, min, max, Bool, true, false, cond, not, ◌&&◌, ◌||◌, List, [], ◌∷◌, ◌⊎◌, T, eqb, ltb, leb, length, get_or}
 use Rattle.std.proofs.Common.{sym, ap, subst, ◌∙◌, add-one, arith, true≢false, inl, inr, ltb-true, ltb-false, eqb-true, lt-ltb, le-ltb, le-leb, eq-eqb}
 use Rattle.std.proofs.Math.Bool.{or-true, or-false, and_assoc, and_comm}
-use Rattle.std.proofs.lemmas.Bool.{eqb-false, lt-leb, not_true, not-false}
+use Rattle.std.proofs.lemmas.Bool.{eqb-false, lt-leb, not-true, not-false}
 use Rattle.rules.specs.Limits.{colliders}
 use Rattle.rules.specs.Numbers.{every, any}
 use Rattle.rule_laws.specs.NumberLaws.{every_same}
@@ -17,14 +17,20 @@ use Rattle.layout.specs.Contact.{contact_pair_index}
 use Rattle.contact_range.specs.Recorded.{capacity_of, listed_count, free_count, listed_at, free_at, contact_at}
 use Rattle.contact_range.specs.Range.{counts_fit, listed_given, names_back, contacts_fit, free_given, free_once, stands, is_free, free_apart, given_known, same_colliders, same_pair, pairs_once, in_range}
 use Rattle.contact_range.specs.RangeLaws.{holds, shown, first_of_lem, rest_of, counts_fit_lem, given_at, fits_at, stands_by_index, fitting}
-use Rattle.contact_range.specs.Conditions.{RightLength, RecordAt, Counts, ListedGiven, Standing, Unmarked, FreeTaken, listed_fits, free_fits, pair_number, index_at}
+use Rattle.contact_range.specs.Conditions.{RightLength, RecordAt, ListedGiven, Standing, Unmarked, FreeTaken, listed_fits, free_fits, pair_number, index_at}
 
 -- ---- tests of what was read or asked, as a branch of the code gives them
 pub refused : {r t : Bool} → r ≡ t → not r ≡ true → t ≡ false
-refused {r} e h = sym e ∙ not_true r h
+refused {r} e h = sym e ∙ not-true r h
 
 pub passed : {r t : Bool} → r ≡ t → not r ≡ false → t ≡ true
 passed {r} e h = sym e ∙ not-false r h
+
+pub refused_by : {r t : Bool} → r ≡ t → r ≡ false → t ≡ false
+refused_by e h = sym e ∙ h
+
+pub passed_by : {r t : Bool} → r ≡ t → r ≡ true → t ≡ true
+passed_by e h = sym e ∙ h
 
 module _ {r n : ℕ} (e : r ≡ n) where
   pub below : {m : ℕ} → r < m → ltb n m ≡ true

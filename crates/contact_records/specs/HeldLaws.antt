@@ -40,13 +40,13 @@ pub first_held : {xs : List ℕ} {at w : ℕ} {ws : List ℕ} → Holds xs at (w
 first_held {xs} {at} h = ap (word_at xs) (sym (add-zero at)) ∙ h.each 0 (omega arith)
 
 -- the words of an array's structs, n for each: those of struct k
-pub holds-each {ℓ} : {A : Type ℓ} (f : A → List ℕ) (n : ℕ) (size : (a : A) → length (f a) ≡ n) {xs : List ℕ} (at : ℕ) (us : List A) (k : ℕ) (d : A) → k < length us
+pub holds_each {ℓ} : {A : Type ℓ} (f : A → List ℕ) (n : ℕ) (size : (a : A) → length (f a) ≡ n) {xs : List ℕ} (at : ℕ) (us : List A) (k : ℕ) (d : A) → k < length us
     → Holds xs at (each f us) → Holds xs (at + k * n) (f (get_or us k d))
-holds-each f n size at [] k d l h = absurd (not-suc-le-zero l)
-holds-each f n size at (u ∷ us) zero d l h = holds_at (sym (ap (λ (m : ℕ). at + m) (zero-mul n) ∙ add-zero at)) (holds_left (f u) (each f us) h)
-holds-each f n size at (u ∷ us) (suc k) d l h =
+holds_each f n size at [] k d l h = absurd (not-suc-le-zero l)
+holds_each f n size at (u ∷ us) zero d l h = holds_at (sym (ap (λ (m : ℕ). at + m) (zero-mul n) ∙ add-zero at)) (holds_left (f u) (each f us) h)
+holds_each f n size at (u ∷ us) (suc k) d l h =
     let e : at + n + k * n ≡ at + suc k * n = omega (arith, suc-mul k n) in
-    holds_at e (holds-each f n size (at + n) us k d (le_of_suc-le-suc l) (holds_right (f u) (each f us) n (size u) h))
+    holds_at e (holds_each f n size (at + n) us k d (le_of_suc-le-suc l) (holds_right (f u) (each f us) n (size u) h))
 
 -- ---- the same
 

@@ -2,13 +2,9 @@ pub mod Recorded
 pub mod Written
 pub mod StateViews
 pub mod MadeLaws
-pub mod IntLaws
 pub mod LengthLaws
 pub mod StoredLaws
 pub mod HeldLaws
 pub mod Fit
 pub mod ApartLaws
-pub mod BackLaws
-pub mod FitLaws
 pub mod NewLaws
-pub mod PartLaws

@@ -6,7 +6,6 @@ use Rattle.math.specs.Fit.{FitFloat}
 use Rattle.rows.specs.Rows.{put}
 use Rattle.rows.specs.Laws.{put_next}
 use Rattle.rules.specs.Graph.{Addition, new_pair}
-use Rattle.words.specs.Words.{float_word, mark_word}
 use Rattle.manifold_records.specs.ListLaws.{padded_is}
 use Rattle.manifold_records.specs.Written.{zeros, padded, manifolds_words}
 use Rattle.contact_records.specs.Fit.{FitPair}

@@ -18,7 +18,7 @@ use words::row::{load_word, load_words, mark_word, store_words};
 use words::vec::{load_quat, load_vec3};
 
 // The Rust's flags, a mark for each.
-#[derive(Drop)]
+#[derive(Clone, Copy)]
 pub struct ContactPairFlags {
     pub touching: bool,
     pub disjoint_aabb: bool,
@@ -93,7 +93,7 @@ pub fn word_of_int(i: i32) -> u32
 }
 
 // The poses of the last full update, where there are any.
-#[derive(Drop)]
+#[derive(Clone, Copy)]
 pub enum RecyclingCache {
     Cached(ContactRecyclingCache),
     Nothing,

@@ -11,12 +11,12 @@ use Rattle.layout.specs.Collider.{collider_size, colliders_length}
 use Rattle.collider.specs.Range.{collider_fits, colliders_fit, body_fits, bodies_fit}
 use Rattle.contact_graph.specs.Calls.{laid_out, add_refusal, new_id_of, added_words}
 use Rattle.status_pass.specs.Pass.{Passing}
-use Rattle.update_pass.specs.Shared.{active_of, recycledOf}
+use Rattle.update_pass.specs.Shared.{active_of, recycled_of}
 use Rattle.step.specs.Step as step
 use Rattle.step.specs.Step.{step_refusal, made_of, pass_of, answer_of}
 use Rattle.contact_runs.specs.Solver.{write_words}
 use Rattle.contact_run_examples.specs.Calls.{three_colliders, colliders, three_bodies, bodies, one_worker, given_as, resting, anew, together, leaving, rows, request, solving, aside, first, second, touched, solved, rested, doubled, parted, readded, met, left, opened_words}
-use Rattle.contact_run_examples.specs.NextLaws.{report_by, refusalIf, refusal_by}
+use Rattle.contact_run_examples.specs.NextLaws.{report_by, refusal_if, refusal_by}
 use Rattle.contact_run_examples.specs.PastLaws.{every_from, collider_fits_past, body_fits_past}
 use Rattle.contact_run_examples.specs.Opened.{opened_steps}
 
@@ -100,31 +100,31 @@ bodies_fit_lem at =
     every_from (λ n. body_fits (bodies at) (n * body_size)) 3 (three_bodies_lem at)
     (λ n l. body_fits_past (three_bodies at) (bodies_length - 3 * body_size) (n * body_size) (omega (arith, length_bodies at))) limit.bodies
 
-touching_number : refusalIf (resting 0 (one_worker 2)) second rows true true ≡ 0
+touching_number : refusal_if (resting 0 (one_worker 2)) second rows true true ≡ 0
 unfolding opened
 touching_number = refl
 
-recycling_number : refusalIf (resting aside (one_worker 1)) solved rows true true ≡ 0
+recycling_number : refusal_if (resting aside (one_worker 1)) solved rows true true ≡ 0
 unfolding opened
 recycling_number = refl
 
-repeated_number : refusalIf (resting 0 (one_worker 2)) rested rows true true ≡ 7
+repeated_number : refusal_if (resting 0 (one_worker 2)) rested rows true true ≡ 7
 unfolding opened
 repeated_number = refl
 
-doubling_number : refusalIf (anew 2) rested rows true true ≡ 0
+doubling_number : refusal_if (anew 2) rested rows true true ≡ 0
 unfolding opened
 doubling_number = refl
 
-parting_number : refusalIf (anew 0) doubled rows true true ≡ 0
+parting_number : refusal_if (anew 0) doubled rows true true ≡ 0
 unfolding opened
 parting_number = refl
 
-meeting_number : refusalIf together readded rows true true ≡ 0
+meeting_number : refusal_if together readded rows true true ≡ 0
 unfolding opened
 meeting_number = refl
 
-leaving_number : refusalIf leaving met rows true true ≡ 0
+leaving_number : refusal_if leaving met rows true true ≡ 0
 unfolding opened
 leaving_number = refl
 
@@ -188,27 +188,27 @@ unfolding opened
 leaving_pass = refl
 
 -- ---- their reports: events, changes, recycled contacts
-touching_recycled : recycledOf (made_of (resting 0 (one_worker 2)) second) (active_of second) ≡ 0
+touching_recycled : recycled_of (made_of (resting 0 (one_worker 2)) second) (active_of second) ≡ 0
 unfolding opened
 touching_recycled = refl
 
-recycling_recycled : recycledOf (made_of (resting aside (one_worker 1)) solved) (active_of solved) ≡ 1
+recycling_recycled : recycled_of (made_of (resting aside (one_worker 1)) solved) (active_of solved) ≡ 1
 unfolding opened
 recycling_recycled = refl
 
-doubling_recycled : recycledOf (made_of (anew 2) rested) (active_of rested) ≡ 0
+doubling_recycled : recycled_of (made_of (anew 2) rested) (active_of rested) ≡ 0
 unfolding opened
 doubling_recycled = refl
 
-parting_recycled : recycledOf (made_of (anew 0) doubled) (active_of doubled) ≡ 0
+parting_recycled : recycled_of (made_of (anew 0) doubled) (active_of doubled) ≡ 0
 unfolding opened
 parting_recycled = refl
 
-meeting_recycled : recycledOf (made_of together readded) (active_of readded) ≡ 0
+meeting_recycled : recycled_of (made_of together readded) (active_of readded) ≡ 0
 unfolding opened
 meeting_recycled = refl
 
-leaving_recycled : recycledOf (made_of leaving met) (active_of met) ≡ 1
+leaving_recycled : recycled_of (made_of leaving met) (active_of met) ≡ 1
 unfolding opened
 leaving_recycled = refl
 

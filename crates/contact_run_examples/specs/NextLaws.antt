@@ -17,7 +17,7 @@ use Rattle.status_pass.specs.Pass.{Passing}
 use Rattle.status_pass.specs.EventsAndChanges.{event_words, change_words}
 use Rattle.step.specs.Step as step
 use Rattle.step.specs.Step.{Given, Rows, lengths_fit, hooks_fit, rows_in_range, proposals_fit, step_refusal, made_of, pass_of, rows_of, answer_of}
-use Rattle.update_pass.specs.Shared.{active_of, recycledOf}
+use Rattle.update_pass.specs.Shared.{active_of, recycled_of}
 use Rattle.contact_runs.specs.Runs as runs
 use Rattle.contact_runs.specs.Claim.{plain_of, Alike, alike_same, AllAlike, alike_end, alike_then}
 use Rattle.contact_runs.specs.Runs.{Entry, addition, stepping, impulses, Told, Outcomes, end, ◌then◌, Promised, Run}
@@ -74,7 +74,7 @@ module _ (x : Given) (g : List ℕ) (l : Rows) where
   )
 
   -- ---- what a step answers and writes, by what its pass comes to
-  pub report_by : (p : Passing) (n : ℕ) → pass_of x g ≡ p → recycledOf (made_of x g) (active_of g) ≡ n → answer_of x g ≡ step.stepped (length p.events) (length p.changes) n
+  pub report_by : (p : Passing) (n : ℕ) → pass_of x g ≡ p → recycled_of (made_of x g) (active_of g) ≡ n → answer_of x g ≡ step.stepped (length p.events) (length p.changes) n
   unfolding answer_of
   report_by p n e r = λ i. step.stepped (length (e i).events) (length (e i).changes) (r i)
 
@@ -87,15 +87,15 @@ module _ (x : Given) (g : List ℕ) (l : Rows) where
   change_row_lem e = ap (λ (p : Passing). put l.changes 0 (each change_words p.changes)) e
 
   -- its refusal's number, where colliders and bodies are known to be in range
-  abbrev pub refusalIf : Bool → Bool → ℕ
-  refusalIf c b =
+  abbrev pub refusal_if : Bool → Bool → ℕ
+  refusal_if c b =
       cond (not (lengths_fit x g l)) 1
       (cond (not (settings_fit x.settings && (c && (b && (in_range g && hooks_fit x.proposals g))))) 2
       (cond (not (proposals_fit x.proposals g)) 6 (cond (not (shares_fit x.shares g)) 7 0)))
 
-  pub refusal_by : (n : ℕ) → colliders_fit x.colliders ≡ true → bodies_fit x.bodies ≡ true → refusalIf true true ≡ n → step_refusal x g l ≡ n
+  pub refusal_by : (n : ℕ) → colliders_fit x.colliders ≡ true → bodies_fit x.bodies ≡ true → refusal_if true true ≡ n → step_refusal x g l ≡ n
   unfolding step_refusal rows_in_range
-  refusal_by n c b r = (λ i. refusalIf (c i) (b i)) ∙ r
+  refusal_by n c b r = (λ i. refusal_if (c i) (b i)) ∙ r
 
 -- ---- after each call of a list
 pub data Comes : List ℕ → List Entry → List Seen → Type 0 where

@@ -20,7 +20,7 @@ use Rattle.collider.specs.Recorded.{mark_or, number_if_at, float_if_at, coeffici
 use Rattle.proposals.specs.Range.{proposal_fits, hook_fits}
 use Rattle.proposals.specs.Recorded.{proposed_point_at, proposed_points_at, proposed_manifold_at, proposal_at, hook_at}
 use Rattle.rows.specs.Rows.{part, put}
-use Rattle.rows.specs.Slots.{upto, updateAt}
+use Rattle.rows.specs.Slots.{upto, update_at}
 use Rattle.manifold_records.specs.Recorded.{point_at, points_at, manifold_at, manifolds_at}
 use Rattle.manifold_records.specs.Written.{zeros, padded, point_words, manifold_words, manifolds_words}
 use Rattle.contact_records.specs.Recorded.{cache_at, flags_at, names_at, edge_at, pair_at}
@@ -30,11 +30,11 @@ use Rattle.contact_range.specs.Range.{right_length, names_fit, marks_fit, manifo
 use Rattle.data_structures.specs.BitVec.{blocks_of, numbers_with}
 use Rattle.contact_update.specs.After.{points_put, manifolds_put, after_words, record_updated, record_after, graph_after, inputs_of}
 use Rattle.contact_update.specs.Contact.{update_of}
-use Rattle.contact_update.specs.OrderLaws.{graphAfterAll}
+use Rattle.contact_update.specs.OrderLaws.{graph_after_all}
 use Rattle.shares.specs.Shares as shares
 use Rattle.status_pass.specs.Pass.{settled_graph, visited_graph, visit_words, pass_words}
 use Rattle.status_pass.specs.Settled.{settled_words}
-use Rattle.update_pass.specs.Shared.{active_of, recycledOf, standingIds}
+use Rattle.update_pass.specs.Shared.{active_of, recycled_of, standing_ids}
 use Rattle.contact_runs.specs.Solver.{stored, write_word, write_words}
 use Rattle.step.specs.Step.{given_long, rows_long, lengths_fit, hooks_fit, rows_in_range, proposals_fit, step_refusal, pass_of, answer_of}
 
@@ -80,7 +80,7 @@ opened_proposals = 0
 
 -- a contact's record
 unfoldable pub opened_records : ℕ
-unfolding part put upto updateAt point_at points_at manifold_at manifolds_at cache_at flags_at names_at edge_at pair_at zeros padded optional_words int_word point_words manifold_words manifolds_words cache_words flags_words names_words edge_words state_words contact_words
+unfolding part put upto update_at point_at points_at manifold_at manifolds_at cache_at flags_at names_at edge_at pair_at zeros padded optional_words int_word point_words manifold_words manifolds_words cache_words flags_words names_words edge_words state_words contact_words
 opened_records = 0
 
 -- lay out, add and remove
@@ -95,7 +95,7 @@ opened_range = 0
 
 -- the updates of a graph's contacts
 unfoldable pub opened_updates : ℕ
-unfolding points_put manifolds_put after_words record_updated record_after graph_after inputs_of update_of graphAfterAll active_of recycledOf standingIds
+unfolding points_put manifolds_put after_words record_updated record_after graph_after inputs_of update_of graph_after_all active_of recycled_of standing_ids
 opened_updates = 0
 
 -- the status pass, over the standing bits

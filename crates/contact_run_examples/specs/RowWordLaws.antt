@@ -7,7 +7,7 @@ use Rattle.contact_records.specs.Written.{optional_words, int_word}
 use Rattle.layout.specs.Change.{change_size}
 use Rattle.layout.specs.Event.{event_size}
 use Rattle.status_pass.specs.EventsAndChanges.{event_words, change_words}
-use Rattle.update_pass.specs.Shared.{share_of, bitsAfter, workerBits, parts_of, distancesOf}
+use Rattle.update_pass.specs.Shared.{share_of, bits_after, worker_bits, parts_of, distances_of}
 use Rattle.step.specs.Step.{rows_of}
 use Rattle.contact_run_examples.specs.AnswerLaws.{opened, touching_pass, doubling_pass, parting_pass, meeting_pass}
 use Rattle.contact_run_examples.specs.Calls.{one_worker, two_workers, resting, anew, together, rows, used_rows, second, rested, doubled, readded}
@@ -41,14 +41,14 @@ meeting_changes = change_row_lem together readded rows meeting_pass
 
 -- ---- contact distances: the tolerance; +0 for a disjoint contact
 pub touching_distances : (rows_of (resting 0 (one_worker 2)) second rows).distances ≡ 0x3ba3_d70a ∷ 0 ∷ []
-unfolding opened rows_of distancesOf
+unfolding opened rows_of distances_of
 touching_distances = refl
 
 -- ---- bit words: both contacts' bits in the only worker's part, or each in its worker's; what the words held before is gone
 pub one_worker_bits : (rows_of (resting 0 (one_worker 2)) second rows).bits ≡ 3 ∷ zeros 7
-unfolding opened rows_of parts_of workerBits bitsAfter share_of marked
+unfolding opened rows_of parts_of worker_bits bits_after share_of marked
 one_worker_bits = refl
 
 pub two_worker_bits : (rows_of (resting 0 two_workers) second used_rows).bits ≡ 2 ∷ 1 ∷ zeros 6
-unfolding opened rows_of parts_of workerBits bitsAfter share_of marked
+unfolding opened rows_of parts_of worker_bits bits_after share_of marked
 two_worker_bits = refl

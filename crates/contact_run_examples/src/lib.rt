@@ -1,1 +1,2 @@
 // Lists of calls whose runs are computed: see specs/. No code.
+#![tactic(auto)]

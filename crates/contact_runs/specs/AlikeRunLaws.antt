@@ -1,5 +1,5 @@
 -- Two lists of calls on the same words, alike in all but allowed shares and what the bit words held, leave the same words after every call, and tell the same. Assumes nothing.
-use Rattle.std.specs.Prelude.{ℕ, zero, suc, ◌*◌, ◌≡◌, refl, ◌⊎◌, Bool, not, ◌&&◌, List, [], ◌∷◌, map, length}
+use Rattle.std.specs.Prelude.{ℕ, zero, suc, ◌*◌, ◌≡◌, refl, ◌⊎◌, Bool, not, ◌&&◌, List, length}
 use Rattle.std.proofs.Common.{sym, ap, subst, ◌∙◌, inl, inr, eq-eqb}
 use Rattle.std.proofs.Math.Bool.{cond}
 use Rattle.std.proofs.Math.Dec.{eqb, eqb-suc-zero}
@@ -12,24 +12,21 @@ use Rattle.layout.specs.Proposal.{proposal_size}
 use Rattle.layout.specs.Settings.{settings_length}
 use Rattle.layout.specs.Shares.{shares_length}
 use Rattle.collider.specs.Range.{settings_fit, colliders_fit, bodies_fit}
-use Rattle.contact_graph.specs.Calls.{add_refusal, added_words}
 use Rattle.contact_range.specs.Range.{right_length, in_range}
 use Rattle.contact_range.specs.Recorded.{capacity_of}
-use Rattle.contact_graph.specs.declared.call.Request.{Request}
 use Rattle.shares.specs.Shares.{shares_fit}
 use Rattle.status_pass.specs.Pass.{Passing}
 use Rattle.status_pass.specs.EventsAndChanges.{event_words, change_words}
-use Rattle.step.specs.ShareLaws.{shares_free, distances_free, recycled_free}
+use Rattle.step.proofs.ShareLaws.{shares_free, distances_free, recycled_free}
 use Rattle.step.specs.Step as step
-use Rattle.step.specs.Step.{Given, Rows, Stepped, long, given_long, rows_long, lengths_fit, hooks_fit, numbers_fit, rows_in_range, proposals_fit, step_refusal, made_of, pass_of, rows_of, answer_of, plain_answer}
+use Rattle.step.specs.Step.{Given, Rows, Stepped, long, given_long, rows_long, lengths_fit, hooks_fit, rows_in_range, proposals_fit, step_refusal, made_of, pass_of, rows_of, answer_of}
 use Rattle.step.specs.declared.answer.StepAnswer.{StepAnswer}
-use Rattle.update_pass.specs.Shared.{active_of, bits_length, recycledOf, distancesOf}
+use Rattle.update_pass.specs.Shared.{active_of, bits_length, recycled_of, distances_of}
 use Rattle.contact_runs.specs.Runs as runs
 use Rattle.contact_runs.specs.Claim.{Allowed, AlikeSteps, Alike, alike_same, alike_steps, AllAlike, alike_end, alike_then, SameSteps, SameTold, same_told, same_steps, AllSame, same_end, same_then}
 use Rattle.contact_runs.specs.Runs.{Entry, stepping, Told, stepped, Outcomes, end, ◌then◌, Promised, Run}
 use Rattle.contact_runs.specs.OnlyLaws.{call_only}
-use Rattle.step.specs.Read.{events_of, changes_of}
-use Rattle.step.specs.ReadLaws.{refused_events, refused_changes, events_read, changes_read}
+use Rattle.step.proofs.ReadLaws.{refused_events, refused_changes, events_read, changes_read}
 use Rattle.step.specs.DeterminedLaws.{step_determined}
 
 -- ---- two steps
@@ -72,10 +69,10 @@ module _ (g : List ℕ) (x : Given) (l : Rows) (y : Given) (m : Rows) (a : Alike
   pass_same : pass_of y g ≡ pass_of x g
   pass_same = shares_free x y g a.settings a.colliders a.bodies a.proposals
 
-  recycled_same : recycledOf (made_of y g) (active_of g) ≡ recycledOf (made_of x g) (active_of g)
+  recycled_same : recycled_of (made_of y g) (active_of g) ≡ recycled_of (made_of x g) (active_of g)
   recycled_same = recycled_free x y g a.settings a.colliders a.bodies a.proposals
 
-  distances_same : distancesOf (made_of y g) g ≡ distancesOf (made_of x g) g
+  distances_same : distances_of (made_of y g) g ≡ distances_of (made_of x g) g
   distances_same = distances_free x y g a.settings a.colliders a.bodies a.proposals
 
   report_same : answer_of y g ≡ answer_of x g

@@ -1,6 +1,6 @@
 -- Every list of calls has a run on any words, and its outcomes are the only ones. Assumes nothing.
 use Rattle.std.specs.Prelude.{ℕ, ◌≡◌, refl, cond, List, [], ◌∷◌, eqb}
-use Rattle.std.proofs.Common.{sym, ap, subst, ◌∙◌}
+use Rattle.std.proofs.Common.{ap, subst}
 use Rattle.contact_graph.specs.Calls.{add_refusal, added_words}
 use Rattle.contact_graph.specs.DeterminedLaws.{add_determined, add_answered}
 use Rattle.step.specs.Step.{step_refusal, pass_of, rows_of}

@@ -56,26 +56,26 @@ parts_joined blocks part (suc n) = joined (parts_joined blocks part n) (part n)
 
 module _ (g : List ℕ) (s : Stage) where
   -- the status pass, over the standing bits, ascending
-  unfoldable pub passAfter : Passing
-  passAfter = pass_words (begun s.graph) (set_bits (parts_joined (blocks_of (capacity_of g)) s.part most_workers))
+  unfoldable pub pass_after : Passing
+  pass_after = pass_words (begun s.graph) (set_bits (parts_joined (blocks_of (capacity_of g)) s.part most_workers))
 
-  unfoldable pub rowsAfter : Rows → Rows
-  rowsAfter l =
+  unfoldable pub rows_after : Rows → Rows
+  rows_after l =
       record {
         bits = parts_row s.part most_workers;
-        events = put l.events 0 (each event_words passAfter.events);
-        changes = put l.changes 0 (each change_words passAfter.changes);
+        events = put l.events 0 (each event_words pass_after.events);
+        changes = put l.changes 0 (each change_words pass_after.changes);
         distances = s.distances;
       }
 
-  unfoldable pub answerAfter : step.Answer
-  answerAfter = step.stepped (length passAfter.events) (length passAfter.changes) s.recycled
+  unfoldable pub answer_after : step.Answer
+  answer_after = step.stepped (length pass_after.events) (length pass_after.changes) s.recycled
 
 -- an accepted step that updates the active contacts in that order, each once
 pub record InOrder (x : Given) (g : List ℕ) (l : Rows) (ids : List ℕ) (g' : List ℕ) (l' : Rows) (r : StepAnswer) : Type 0 where
   pub accepted : step_refusal x g l ≡ 0
   pub once : Distinct ids
   pub active : SameMembers ids (active_of g)
-  pub answer : plain_answer r ≡ answerAfter g (update_each x (stage_at g) ids)
-  pub graph : g' ≡ (passAfter g (update_each x (stage_at g) ids)).graph
-  pub rows : l' ≡ rowsAfter g (update_each x (stage_at g) ids) l
+  pub answer : plain_answer r ≡ answer_after g (update_each x (stage_at g) ids)
+  pub graph : g' ≡ (pass_after g (update_each x (stage_at g) ids)).graph
+  pub rows : l' ≡ rows_after g (update_each x (stage_at g) ids) l

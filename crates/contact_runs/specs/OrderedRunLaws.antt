@@ -14,7 +14,7 @@ use Rattle.update_pass.specs.Shared.{active_of, entries_of}
 use Rattle.contact_runs.specs.Runs as runs
 use Rattle.contact_runs.specs.Runs.{Entry, stepping, Told, stepped, Outcomes, end, ◌then◌, Calling, Promised, Ordered, Run}
 use Rattle.contact_runs.specs.OrderLaws.{pass_in_order, rows_in_order, answer_in_order}
-use Rattle.contact_runs.specs.Ordered.{stage_at, update_each, passAfter, rowsAfter, answerAfter, InOrder}
+use Rattle.contact_runs.specs.Ordered.{stage_at, update_each, pass_after, rows_after, answer_after, InOrder}
 
 not_suc_zero : (n : ℕ) → suc n ≡ 0 → ⊥
 not_suc_zero n e = omega arith
@@ -73,12 +73,12 @@ module _ (x : Given) (g : List ℕ) (l : Rows) where
 -- every order of the active contacts has its outcome
 pub any_in_order : (x : Given) (g : List ℕ) (l : Rows) (ids : List ℕ) → step_refusal x g l ≡ 0 → Distinct ids → SameMembers ids (active_of g)
     → (h : List ℕ) × (l' : Rows) × (r : StepAnswer) × InOrder x g l ids h l' r
-unfolding answerAfter
+unfolding answer_after
 any_in_order x g l ids z d m =
     let s = update_each x (stage_at g) ids in
-    let p = passAfter g s in (
+    let p = pass_after g s in (
       p.graph,
-      rowsAfter g s l,
+      rows_after g s l,
       answer.Done (record { events = length p.events; changes = length p.changes; recycled = s.recycled }),
       record { accepted = z; once = d; active = m; answer = refl; graph = refl; rows = refl },
     )

@@ -3,7 +3,7 @@ use Prim.Native.Nat.{ℕ, zero, suc, ◌*◌}
 use Rattle.std.specs.Prelude.{◌≡◌, Bool, true, not, ◌&&◌, ◌||◌, length}
 use Rattle.std.proofs.Math.Path.{refl, sym, ap}
 use Rattle.std.proofs.Common.{◌∙◌}
-use Rattle.std.proofs.Math.Bool.{cond, and_true, and_assoc, or-false, or_assoc}
+use Rattle.std.proofs.Math.Bool.{cond, and-true, and_assoc, or-false, or_assoc}
 use mathlib.Core.List.{List, [], ◌∷◌, ◌++◌, map, map-append}
 use Rattle.std.proofs.Math.Dec.{eqb}
 use Rattle.rows.specs.Slots.{upto}
@@ -24,14 +24,14 @@ use Rattle.contact_graph.specs.declared.call.Request.{Request}
 use Rattle.layout.specs.Proposal.{proposal_size}
 use Rattle.proposals.specs.Range.{hook_fits, proposal_fits}
 use Rattle.shares.specs.Shares.{total_of, entry_at, times, counts_fit, entries_stand, active_once, shares_fit}
-use Rattle.step.specs.Step.{Given, Rows, given_long, rows_long, lengths_fit, hooks_fit, numbers_fit, rows_in_range, proposals_fit, step_refusal}
+use Rattle.step.specs.Step.{Given, Rows, given_long, rows_long, lengths_fit, hooks_fit, rows_in_range, proposals_fit, step_refusal}
 use Rattle.contact_runs.specs.Refusals.{all_pairs, some_pair, plain_add_refusal, plain_hooks_fit, plain_proposals_fit, plain_shares_fit, plain_step_refusal}
 
 -- ---- a test of pairs by their place
 module _ (f : Pair → Bool) where
   all_next : (ps : List Pair) (p : Pair) → all_pairs f (ps ++ p ∷ []) ≡ (all_pairs f ps && f p)
   unfolding all_pairs
-  all_next [] p = and_true (f p)
+  all_next [] p = and-true (f p)
   all_next (q ∷ ps) p = ap (λ (b : Bool). f q && b) (all_next ps p) ∙ sym (and_assoc (f q) (all_pairs f ps) (f p))
 
   pub all_upto : (h : ℕ → Pair) (n : ℕ) → all_pairs f (map h (upto n)) ≡ every (λ k. f (h k)) n

@@ -25,7 +25,7 @@ use Rattle.contact_range.specs.Recorded.{graph_of}
 use Rattle.contact_graph.specs.declared.call.Request.{Request}
 use Rattle.step.specs.Step as step
 use Rattle.step.specs.Step.{Given, Rows, step_refusal, inputs, pass_of, rows_of, answer_of, plain_answer}
-use Rattle.step.specs.StepLaws.{step_means}
+use Rattle.step.proofs.StepLaws.{step_means}
 use Rattle.step.specs.declared.answer.StepAnswer.{StepAnswer}
 use Rattle.contact_runs.specs.Runs as runs
 use Rattle.contact_runs.specs.Claim.{plain_of, told_changes, replay_told}
@@ -33,7 +33,7 @@ use Rattle.contact_runs.specs.Runs.{Entry, addition, stepping, impulses, Told, O
 use Rattle.contact_runs.specs.RefusalLaws.{step_refusal_lem}
 use Rattle.contact_runs.specs.Refusals.{some_pair, plain_add_refusal}
 use Rattle.contact_runs.specs.RunLaws.{call_plain}
-use Rattle.step.specs.ReadLaws.{refused_changes, changes_read}
+use Rattle.step.proofs.ReadLaws.{refused_changes, changes_read}
 
 -- the number 5 of an addition
 add_spare : (a : Request) (g : Graph) → plain_add_refusal a g ≡ 0 → length g.pairs ≡ g.capacity → ⊥
@@ -64,12 +64,12 @@ abbrev Replays : (e : Entry) → Told e → List ℕ → After → Type 0
 Replays e t h a = (k : Held) → replay (graph_of h).pairs (told_changes t) k ≡ replay_answer a.answer k
 
 module _ (g : List ℕ) (x : Given) (l : Rows) where
-  abbrev plainStepped : After
-  plainStepped = record { graph = (plain_step (inputs x) (graph_of g)).graph; answer = stepped (plain_step (inputs x) (graph_of g)) }
+  abbrev plain_stepped : After
+  plain_stepped = record { graph = (plain_step (inputs x) (graph_of g)).graph; answer = stepped (plain_step (inputs x) (graph_of g)) }
 
   step_replays : (h : List ℕ) (l' : Rows) (r : StepAnswer) (n : ℕ) → step_refusal x g l ≡ n
       → plain_answer r ≡ cond (eqb n 0) (answer_of x g) (step.refused n) → h ≡ cond (eqb n 0) (pass_of x g).graph g → l' ≡ cond (eqb n 0) (rows_of x g l) l
-      → Replays (stepping x l) (runs.stepped r l') h (unless_refused n (graph_of g) plainStepped)
+      → Replays (stepping x l) (runs.stepped r l') h (unless_refused n (graph_of g) plain_stepped)
   unfolding replay replay_answer
   step_replays h l' r zero z p q s k =
       let m = step_means x g l z in
@@ -90,7 +90,7 @@ unfolding plain_call replay replay_answer
 call_replays g c (runs.Promised.adds {a} f m) k =
     add_silent (plain_add_refusal a (graph_of g)) (graph_of g) (record { graph = plain_add (addition_of a) (graph_of g); answer = added (new_id (graph_of g)) }) (new_id (graph_of g)) k refl
 call_replays g c (runs.Promised.steps {x} {l} {l'} {r} {h} m) k =
-    subst (λ (n : ℕ). Replays (stepping x l) (runs.stepped r l') h (unless_refused n (graph_of g) (plainStepped g x l))) (step_refusal_lem c x l)
+    subst (λ (n : ℕ). Replays (stepping x l) (runs.stepped r l') h (unless_refused n (graph_of g) (plain_stepped g x l))) (step_refusal_lem c x l)
     (step_replays g x l h l' r (step_refusal x g l) refl m.answer m.graph m.rows) k
 call_replays g c runs.Promised.writes k = refl
 

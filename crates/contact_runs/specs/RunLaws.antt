@@ -21,12 +21,12 @@ use Rattle.contact_graph.specs.declared.call.Request.{Request}
 use Rattle.status_pass.specs.EventsAndChanges.{event_words, change_words}
 use Rattle.step.specs.Step as step
 use Rattle.step.specs.Step.{Given, Rows, Stepped, step_refusal, inputs, pass_of, rows_of, answer_of, plain_answer}
-use Rattle.step.specs.StepLaws.{StepMeans, step_checked, step_means}
+use Rattle.step.proofs.StepLaws.{StepMeans, step_checked, step_means}
 use Rattle.step.specs.declared.answer.StepAnswer.{StepAnswer}
 use Rattle.contact_runs.specs.Runs as runs
 use Rattle.contact_runs.specs.Claim.{plain_of, ReportIs, AnswerIs, addition_refused, addition_made, step_refused, step_made, nothing, AsPlain, plain_end, plain_then}
-use Rattle.contact_runs.specs.Runs.{Entry, addition, stepping, impulses, Told, added, stepped, silent, Outcomes, end, ◌then◌, Promised, Run}
-use Rattle.step.specs.ReadLaws.{events_read, changes_read}
+use Rattle.contact_runs.specs.Runs.{Entry, addition, stepping, Told, added, stepped, Outcomes, end, ◌then◌, Promised, Run}
+use Rattle.step.proofs.ReadLaws.{events_read, changes_read}
 use Rattle.contact_runs.specs.RefusalLaws.{add_refusal_lem, step_refusal_lem}
 use Rattle.contact_runs.specs.Refusals.{plain_add_refusal, plain_step_refusal}
 use Rattle.contact_runs.specs.WriteLaws.{writes_checked, writes_mean}
@@ -38,12 +38,12 @@ Leads e t h a = Checked h × AnswerIs e t a.answer × (graph_of h ≡ a.graph)
 
 module _ (g : List ℕ) (c : Checked g) where
   -- an addition, by its number
-  abbrev plainAdded : Request → rules.After
-  plainAdded a = record { graph = plain_add (addition_of a) (graph_of g); answer = rules.added (new_id (graph_of g)) }
+  abbrev plain_added : Request → rules.After
+  plain_added a = record { graph = plain_add (addition_of a) (graph_of g); answer = rules.added (new_id (graph_of g)) }
 
   added_leads : (a : Request) (h : List ℕ) (r : AddAnswer) (n : ℕ) → FitFloat a.speculative_distance → add_refusal g a ≡ n
       → add_answer r ≡ cond (eqb n 0) (graph.added (new_id_of g)) (graph.refused_id n) → h ≡ cond (eqb n 0) (added_words g a) g
-      → Leads (addition a) (added r) h (unless_refused n (graph_of g) (plainAdded a))
+      → Leads (addition a) (added r) h (unless_refused n (graph_of g) (plain_added a))
   added_leads a h r zero f z p q =
       (subst Checked (sym q) (added_in_range a c z), addition_made (p ∙ ap graph.added (added_id g)), ap graph_of q ∙ added_graph a c z f)
   added_leads a h r (suc n) f z p q =
@@ -51,15 +51,15 @@ module _ (g : List ℕ) (c : Checked g) where
       (subst Checked (sym e) c, addition_refused (p ∙ ap (λ (b : Bool). cond b (graph.added (new_id_of g)) (graph.refused_id (suc n))) (eqb-suc-zero n)), ap graph_of e)
 
   add_plain : (a : Request) (h : List ℕ) (r : AddAnswer) → FitFloat a.speculative_distance → Added g a h r
-      → Leads (addition a) (added r) h (unless_refused (plain_add_refusal a (graph_of g)) (graph_of g) (plainAdded a))
+      → Leads (addition a) (added r) h (unless_refused (plain_add_refusal a (graph_of g)) (graph_of g) (plain_added a))
   add_plain a h r f k =
-      subst (λ (n : ℕ). Leads (addition a) (added r) h (unless_refused n (graph_of g) (plainAdded a))) (add_refusal_lem c a)
+      subst (λ (n : ℕ). Leads (addition a) (added r) h (unless_refused n (graph_of g) (plain_added a))) (add_refusal_lem c a)
       (added_leads a h r (add_refusal g a) f refl k.answer k.graph)
 
   -- a step, by its number
   module _ (x : Given) (l : Rows) where
-    abbrev plainStepped : rules.After
-    plainStepped = record { graph = (plain_step (inputs x) (graph_of g)).graph; answer = rules.stepped (plain_step (inputs x) (graph_of g)) }
+    abbrev plain_stepped : rules.After
+    plain_stepped = record { graph = (plain_step (inputs x) (graph_of g)).graph; answer = rules.stepped (plain_step (inputs x) (graph_of g)) }
 
     report : step_refusal x g l ≡ 0 → (l' : Rows) (r : StepAnswer) → StepMeans x g → plain_answer r ≡ answer_of x g → l' ≡ rows_of x g l → ReportIs l l' r (plain_step (inputs x) (graph_of g))
     unfolding answer_of rows_of
@@ -75,7 +75,7 @@ module _ (g : List ℕ) (c : Checked g) where
 
     stepped_leads : (h : List ℕ) (l' : Rows) (r : StepAnswer) (n : ℕ) → step_refusal x g l ≡ n
         → plain_answer r ≡ cond (eqb n 0) (answer_of x g) (step.refused n) → h ≡ cond (eqb n 0) (pass_of x g).graph g → l' ≡ cond (eqb n 0) (rows_of x g l) l
-        → Leads (stepping x l) (stepped r l') h (unless_refused n (graph_of g) plainStepped)
+        → Leads (stepping x l) (stepped r l') h (unless_refused n (graph_of g) plain_stepped)
     stepped_leads h l' r zero z p q s =
         let m = step_means x g l z in
         (subst Checked (sym q) (step_checked x g l z), step_made (report z l' r m p s), ap graph_of q ∙ m.graph)
@@ -87,9 +87,9 @@ module _ (g : List ℕ) (c : Checked g) where
         )
 
     step_plain : (h : List ℕ) (l' : Rows) (r : StepAnswer) → Stepped x g l h l' r
-        → Leads (stepping x l) (stepped r l') h (unless_refused (plain_step_refusal x l (graph_of g)) (graph_of g) plainStepped)
+        → Leads (stepping x l) (stepped r l') h (unless_refused (plain_step_refusal x l (graph_of g)) (graph_of g) plain_stepped)
     step_plain h l' r k =
-        subst (λ (n : ℕ). Leads (stepping x l) (stepped r l') h (unless_refused n (graph_of g) plainStepped)) (step_refusal_lem c x l)
+        subst (λ (n : ℕ). Leads (stepping x l) (stepped r l') h (unless_refused n (graph_of g) plain_stepped)) (step_refusal_lem c x l)
         (stepped_leads h l' r (step_refusal x g l) refl k.answer k.graph k.rows)
 
 pub call_plain : (g : List ℕ) → Checked g → {e : Entry} {t : Told e} {h : List ℕ} → Promised g e t h → Leads e t h (plain_call (plain_of e) (graph_of g))

@@ -17,9 +17,9 @@ use Rattle.rows.specs.Slots.{upto}
 use Rattle.rows.specs.SlotLaws.{slots_apart, slot_fits}
 use Rattle.rules.specs.Matching.{with_points}
 use Rattle.rules.specs.Records.{Manifold}
-use Rattle.rules.specs.Solver.{Impulse, normal_impulse, warm_start_normal_impulse, warm_start_tangent_impulse_x, warm_start_tangent_impulse_y, point_with, point_written, changedAt, manifold_written, with_manifolds, pair_written, with_pairs, plain_write, plain_writes}
+use Rattle.rules.specs.Solver.{Impulse, normal_impulse, warm_start_normal_impulse, warm_start_tangent_impulse_x, warm_start_tangent_impulse_y, point_with, point_written, changed_at, manifold_written, with_manifolds, pair_written, with_pairs, plain_write, plain_writes}
 use Rattle.rule_laws.specs.LookupLaws.{Test, same, other, test}
-use Rattle.rule_laws.specs.SolverLaws.{changed-past}
+use Rattle.rule_laws.specs.SolverLaws.{changed_past}
 use Rattle.words.specs.Words.{word_at}
 use Rattle.manifold_records.specs.Counts.{Counted}
 use Rattle.manifold_records.specs.ListLaws.{map_upto_same, length_map_upto}
@@ -37,38 +37,38 @@ use Rattle.contact_range.specs.RangeLaws.{first_of_lem, rest_of, listed_below, s
 use Rattle.contact_range.specs.Recorded.{capacity_of, listed_count, free_count, listed_at, free_at, contact_at, graph_of}
 use Rattle.contact_graph.specs.AddedGraphLaws.{listed_pair, listed_counted}
 use Rattle.contact_graph.specs.EffectLaws.{differ, same_or_not}
-use Rattle.contact_graph.specs.ImpulseLaws.{map-map, capacity_kept, given_kept, listed_kept, freed_kept, listed_at_lem, free_at_lem, first_words_lem, manifold_run, stands_kept, impulses_in_range, impulses_then, impulses_none, impulse_put}
+use Rattle.contact_graph.specs.ImpulseLaws.{map_map, capacity_kept, given_kept, listed_kept, freed_kept, listed_at_lem, free_at_lem, first_words_lem, manifold_run, stands_kept, impulses_in_range, impulses_then, impulses_none, impulse_put}
 use Rattle.contact_graph.specs.Impulses.{stored_point_place, ImpulseAt, ImpulsesWritten}
 use Rattle.contact_runs.specs.Solver.{Write, impulse_place, stored, written_place, write_word, write_words, plain_of_write}
 
 -- ---- one element changed
 module _ {ℓ} {A : Type ℓ} (f : A → A) where
-  changed_next : (n : ℕ) (xs : List A) (x : A) → length xs ≢ n → changedAt n f (xs ++ x ∷ []) ≡ changedAt n f xs ++ x ∷ []
-  unfolding changedAt
+  changed_next : (n : ℕ) (xs : List A) (x : A) → length xs ≢ n → changed_at n f (xs ++ x ∷ []) ≡ changed_at n f xs ++ x ∷ []
+  unfolding changed_at
   changed_next zero [] x d = absurd (d refl)
   changed_next (suc n) [] x d = refl
   changed_next zero (y ∷ xs) x d = refl
   changed_next (suc n) (y ∷ xs) x d = λ j. y ∷ changed_next n xs x (λ e. d (ap suc e)) j
 
-  changed_last : (xs : List A) (x : A) → changedAt (length xs) f (xs ++ x ∷ []) ≡ xs ++ f x ∷ []
-  unfolding changedAt
+  changed_last : (xs : List A) (x : A) → changed_at (length xs) f (xs ++ x ∷ []) ≡ xs ++ f x ∷ []
+  unfolding changed_at
   changed_last [] x = refl
   changed_last (y ∷ xs) x = λ j. y ∷ changed_last xs x j
 
-  changed_upto : (a b : ℕ → A) (n count : ℕ) → ((k : ℕ) → k < count → k ≢ n → b k ≡ a k) → (n < count → b n ≡ f (a n)) → map b (upto count) ≡ changedAt n f (map a (upto count))
-  unfolding changedAt upto
+  changed_upto : (a b : ℕ → A) (n count : ℕ) → ((k : ℕ) → k < count → k ≢ n → b k ≡ a k) → (n < count → b n ≡ f (a n)) → map b (upto count) ≡ changed_at n f (map a (upto count))
+  unfolding changed_at upto
   changed_upto a b n zero others own = refl
   changed_upto a b n (suc count) others own =
       map-append b (upto count) (count ∷ [])
       ∙ elim (same_or_not count n) [
         | inl e ↦
             (λ j. map_upto_same b a count (λ k l. others k (omega arith) (λ q. omega arith)) j ++ (ap b e ∙ own (omega arith) ∙ ap (λ (k : ℕ). f (a k)) (sym e)) j ∷ [])
-            ∙ sym (changed_last (map a (upto count)) (a count)) ∙ ap (λ (k : ℕ). changedAt k f (map a (upto count) ++ a count ∷ [])) (length_map_upto a count ∙ e)
+            ∙ sym (changed_last (map a (upto count)) (a count)) ∙ ap (λ (k : ℕ). changed_at k f (map a (upto count) ++ a count ∷ [])) (length_map_upto a count ∙ e)
         | inr d ↦
             (λ j. changed_upto a b n count (λ k l. others k (omega arith)) (λ l. own (omega arith)) j ++ others count (omega arith) d j ∷ [])
             ∙ sym (changed_next n (map a (upto count)) (a count) (λ e. d (sym (length_map_upto a count) ∙ e)))
       ]
-      ∙ ap (changedAt n f) (sym (map-append a (upto count) (count ∷ [])))
+      ∙ ap (changed_at n f) (sym (map-append a (upto count) (count ∷ [])))
 
 -- ---- one word of a point
 impulse_least : (i : Impulse) → point_normal_impulse ≤ impulse_place i
@@ -185,7 +185,7 @@ module _ (g : List ℕ) (at : ℕ) (w : Write) (n : Counted g (at + contact_mani
       manifold_same (n.points m l) (same_put g j (w.word ∷ []) (manifold_of m) 81
       (elim (slots_apart (at + contact_manifolds + 1) 81 m w.manifold d) [ inl a ↦ inl (omega (arith, e)) | inr a ↦ inr (omega (arith, e, most, small)) ]))
 
-  pair_own : (id : ℕ) → pair_at written at id ≡ with_manifolds (pair_at g at id) (changedAt w.manifold (manifold_written (plain_of_write w)) (pair_at g at id).manifolds)
+  pair_own : (id : ℕ) → pair_at written at id ≡ with_manifolds (pair_at g at id) (changed_at w.manifold (manifold_written (plain_of_write w)) (pair_at g at id).manifolds)
   unfolding pair_at manifolds_at
   pair_own id =
       let s : Same g at written at 37 = same_put g j (w.word ∷ []) at 37 (inl (omega (arith, e))) in
@@ -264,7 +264,7 @@ module _ {g : List ℕ} (c : Checked g) (w : Write) (e : stored g w ≡ true) wh
   -- the pair with that id is written, every other one is as it was
   stored_pair : (p : ℕ) → p < listed_count g → (b : Bool) → Test (listed_at g p) w.contact b
       → pair_at after (contact_at g (listed_at g p)) (listed_at g p)
-      ≡ cond b (with_manifolds (listed_pair g p) (changedAt w.manifold (manifold_written (plain_of_write w)) (listed_pair g p).manifolds)) (listed_pair g p)
+      ≡ cond b (with_manifolds (listed_pair g p) (changed_at w.manifold (manifold_written (plain_of_write w)) (listed_pair g p).manifolds)) (listed_pair g p)
   stored_pair p l true (same q) =
       let room : contact_at g (listed_at g p) + 523 ≤ length g =
       slot_fits (graph_contacts (capacity_of g)) 523 (capacity_of g) (listed_at g p) (length g) (listed_below c.range p l) (omega (arith, c.right.size)) in
@@ -297,7 +297,7 @@ module _ {g : List ℕ} (c : Checked g) (w : Write) (e : stored g w ≡ true) wh
         pairs =
             (ap (λ (n : ℕ). map (listed_pair after) (upto n)) (listed_kept c v)
             ∙ map_upto_same (listed_pair after) (λ p. pair_written (plain_of_write w) (listed_pair g p)) (listed_count g) stored_listed
-            ∙ sym (map-map (pair_written (plain_of_write w)) (listed_pair g) (upto (listed_count g)))) i;
+            ∙ sym (map_map (pair_written (plain_of_write w)) (listed_pair g) (upto (listed_count g)))) i;
       }
 
 -- ---- a write that names none
@@ -317,27 +317,27 @@ module _ (g : List ℕ) (w : Write) (e : stored g w ≡ false) where
   none_manifold n =
       let at = point_count_place g w in
       ap (with_points (manifold_at g at))
-      (sym (changed-past (point_written w.impulse (of_bits binary32 w.word)) w.point (points_at g (at + manifold_points) (word_at g at))
+      (sym (changed_past (point_written w.impulse (of_bits binary32 w.word)) w.point (points_at g (at + manifold_points) (word_at g at))
       (omega (arith, length_map_upto (λ k. point_at g (at + manifold_points + k * point_size)) (word_at g at)))))
 
   none_manifolds : stands g w.contact ≡ true → (t : Bool) → has_manifold g w ≡ t
-      → manifolds_at g (manifold_count_place g w) ≡ changedAt w.manifold (manifold_written (plain_of_write w)) (manifolds_at g (manifold_count_place g w))
+      → manifolds_at g (manifold_count_place g w) ≡ changed_at w.manifold (manifold_written (plain_of_write w)) (manifolds_at g (manifold_count_place g w))
   unfolding manifolds_at
   none_manifolds s true m =
       let each : ℕ → Manifold = λ k. manifold_at g (manifold_count_place g w + 1 + k * manifold_size) in
       changed_upto (manifold_written (plain_of_write w)) each each w.manifold (word_at g (manifold_count_place g w)) (λ k l d. refl) (λ l. none_manifold (none_held s m))
   none_manifolds s false m =
       let n = ltb-false w.manifold (word_at g (manifold_count_place g w)) m in
-      sym (changed-past (manifold_written (plain_of_write w)) w.manifold (manifolds_at g (manifold_count_place g w))
+      sym (changed_past (manifold_written (plain_of_write w)) w.manifold (manifolds_at g (manifold_count_place g w))
       (omega (arith, length_map_upto (λ k. manifold_at g (manifold_count_place g w + 1 + k * manifold_size)) (word_at g (manifold_count_place g w)))))
 
   none_pair : (p : ℕ) → p < listed_count g → (b : Bool) → Test (listed_at g p) w.contact b
-      → listed_pair g p ≡ cond b (with_manifolds (listed_pair g p) (changedAt w.manifold (manifold_written (plain_of_write w)) (listed_pair g p).manifolds)) (listed_pair g p)
+      → listed_pair g p ≡ cond b (with_manifolds (listed_pair g p) (changed_at w.manifold (manifold_written (plain_of_write w)) (listed_pair g p).manifolds)) (listed_pair g p)
   unfolding pair_at
   none_pair p l true (same q) =
       ap (with_manifolds (listed_pair g p))
       (subst (λ (i : ℕ). manifolds_at g (contact_at g i + contact_manifolds)
-      ≡ changedAt w.manifold (manifold_written (plain_of_write w)) (manifolds_at g (contact_at g i + contact_manifolds))) (sym q)
+      ≡ changed_at w.manifold (manifold_written (plain_of_write w)) (manifolds_at g (contact_at g i + contact_manifolds))) (sym q)
       (none_manifolds (ap (stands g) (sym q) ∙ stands_at g p l) (has_manifold g w) refl))
   none_pair p l false (other d) = refl
 
@@ -350,7 +350,7 @@ module _ (g : List ℕ) (w : Write) (e : stored g w ≡ false) where
   none_mean =
       ap (with_pairs (graph_of g))
       (map_upto_same (listed_pair g) (λ p. pair_written (plain_of_write w) (listed_pair g p)) (listed_count g) none_listed
-      ∙ sym (map-map (pair_written (plain_of_write w)) (listed_pair g) (upto (listed_count g))))
+      ∙ sym (map_map (pair_written (plain_of_write w)) (listed_pair g) (upto (listed_count g))))
 
 -- ---- any write
 write_impulses : (g : List ℕ) (w : Write) → ImpulsesWritten g (write_word g w)
@@ -373,7 +373,7 @@ write_mean {g} c w = go (stored g w) refl
 pub writes_impulses : {g : List ℕ} → Checked g → (ws : List Write) → ImpulsesWritten g (write_words g ws)
 unfolding write_words
 writes_impulses {g} c [] = impulses_none g
-writes_impulses {g} c (w ∷ ws) = impulses_then c (write_impulses g w) (writes_impulses (impulses_in_range c (write_impulses g w)) ws)
+writes_impulses {g} c (w ∷ ws) = impulses_then c (write_impulses g w) (writes_impulses {g = write_word g w} (impulses_in_range c (write_impulses g w)) ws)
 
 pub writes_checked : {g : List ℕ} → Checked g → (ws : List Write) → Checked (write_words g ws)
 writes_checked c ws = impulses_in_range c (writes_impulses c ws)
@@ -381,7 +381,7 @@ writes_checked c ws = impulses_in_range c (writes_impulses c ws)
 pub writes_mean : {g : List ℕ} → Checked g → (ws : List Write) → graph_of (write_words g ws) ≡ plain_writes (map plain_of_write ws) (graph_of g)
 unfolding write_words plain_writes
 writes_mean c [] = refl
-writes_mean {g} c (w ∷ ws) = writes_mean (impulses_in_range c (write_impulses g w)) ws ∙ ap (plain_writes (map plain_of_write ws)) (write_mean c w)
+writes_mean {g} c (w ∷ ws) = writes_mean {g = write_word g w} (impulses_in_range c (write_impulses g w)) ws ∙ ap (plain_writes (map plain_of_write ws)) (write_mean c w)
 
 -- ---- and every change of impulses is a list of writes
 data Among (v : Write) : List Write → Type 0 where
@@ -507,10 +507,10 @@ module _ {g h : List ℕ} (c : Checked g) (w : ImpulsesWritten g h) where
   all_own {v} (here vs) t s = all_keep vs (filled_impulses t v) (written_place g v) (filled_own t v s)
   all_own (there u vs a) t s = all_own a (filled_impulses t u) s
 
-  abbrev allWrites : List Write
-  allWrites = map filled (all_named (capacity_of g))
+  abbrev all_writes : List Write
+  all_writes = map filled (all_named (capacity_of g))
 
-  impulse_written : (j : ℕ) → ImpulseAt g j → word_at (write_words g allWrites) j ≡ word_at h j
+  impulse_written : (j : ℕ) → ImpulseAt g j → word_at (write_words g all_writes) j ≡ word_at h j
   unfolding stored
   impulse_written j a =
       let i = a.contact in
@@ -520,18 +520,18 @@ module _ {g h : List ℕ} (c : Checked g) (w : ImpulsesWritten g h) where
       let held : a.point < 4 = omega (arith, a.stored, f.points a.manifold a.counted) in
       let v : Write = named i a.manifold a.point p.0 in
       let s : stored g v ≡ true = λ k. a.standing k && (lt-ltb a.manifold (word_at g (manifold_count_place g v)) a.counted k && lt-ltb a.point (word_at g (point_count_place g v)) a.stored k) in
-      subst (λ (k : ℕ). word_at (write_words g allWrites) k ≡ word_at h k) (sym (a.place ∙ ap (λ (u : ℕ). contact_at g i + stored_point_place a.manifold a.point + u) p.1))
+      subst (λ (k : ℕ). word_at (write_words g all_writes) k ≡ word_at h k) (sym (a.place ∙ ap (λ (u : ℕ). contact_at g i + stored_point_place a.manifold a.point + u) p.1))
       (all_own (among_all (capacity_of g) i a.manifold a.point p.0 (standing_below c.range i a.standing) few held) (impulses_none g) s)
 
-  all_written : write_words g allWrites ≡ h
-  all_written = ext_get_or 0 (write_words g allWrites) h ((writes_impulses c allWrites).size ∙ sym w.size) (λ j l. at j)
+  all_written : write_words g all_writes ≡ h
+  all_written = ext_get_or 0 (write_words g all_writes) h ((writes_impulses c all_writes).size ∙ sym w.size) (λ j l. at j)
     where
-      at : (j : ℕ) → word_at (write_words g allWrites) j ≡ word_at h j
+      at : (j : ℕ) → word_at (write_words g all_writes) j ≡ word_at h j
       at j =
-          elim (same_or_not (word_at (write_words g allWrites) j) (word_at h j)) [
+          elim (same_or_not (word_at (write_words g all_writes) j) (word_at h j)) [
             | inl e ↦ e
             | inr d ↦ all_keep (all_named (capacity_of g)) (impulses_none g) j (sym (w.rest j (λ a. d (impulse_written j a))))
           ]
 
 pub impulses_writes : {g h : List ℕ} → Checked g → ImpulsesWritten g h → (ws : List Write) × (write_words g ws ≡ h)
-impulses_writes c w = (allWrites c w, all_written c w)
+impulses_writes c w = (all_writes c w, all_written c w)

@@ -1,12 +1,11 @@
 -- The searches' results put together: the points that stay are the rule's. Assumes nothing.
-use Rattle.std.specs.Prelude.{ℕ, ◌≤◌, ◌<◌, ◌≡◌, refl, T}
+use Rattle.std.specs.Prelude.{ℕ, ◌≤◌, ◌<◌, ◌≡◌, T}
 use Rattle.std.proofs.Common.{arith, subst, ◌∙◌}
 use Rattle.std.proofs.Math.Path.{sym, ap}
-use mathlib.Core.List.{List, [], ◌∷◌, ◌++◌}
-use Rattle.std.proofs.Math.Option.{Option, none, some}
+use mathlib.Core.List.{List, ◌∷◌, ◌++◌}
+use Rattle.std.proofs.Math.Option.{some}
 use Rattle.std.specs.Float.Ieee.Positive.{above}
 use Rattle.math.specs.declared.vec.Vec3.{Vec3}
-use Rattle.rule_laws.specs.NumberLaws.{Found}
 use Rattle.rules.specs.Pruning as rules
 use Rattle.rule_laws.specs.PruningLaws.{Deep, projected_deep, point1_exists, point1_below, point2_exists, point2_below, point3_below, point4_below, kept_same}
 use Rattle.rules.specs.Limits.{proposed_points}

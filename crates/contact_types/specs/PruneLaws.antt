@@ -1,12 +1,11 @@
 -- The struct for the numbers of the points that stay holds them and no more, so the promise of `prune` has one answer. Assumes nothing.
-use Rattle.std.specs.Prelude.{ℕ, ◌+◌, ◌*◌, ◌≤◌, ◌≡◌, refl, Bool, true, false, cond, not, List, [], ◌∷◌, ◌++◌, eqb, ltb, length}
+use Rattle.std.specs.Prelude.{ℕ, ◌+◌, ◌≤◌, ◌≡◌, refl, Bool, true, false, cond, not, List, [], ◌∷◌, eqb, ltb, length}
 use Rattle.std.proofs.Common.{arith, sym, ap, subst, ◌∙◌}
 use Rattle.math.specs.declared.vec.Vec3.{Vec3}
 use Rattle.layout.specs.Prune.{prune_points_length}
 use Rattle.rules.specs.Limits.{proposed_points, stored_points}
 use Rattle.rules.specs.Pruning as rules
 use Rattle.rule_laws.specs.PruningLaws.{kept_four}
-use Rattle.contact_types.specs.Refusals.{number_of}
 use Rattle.contact_types.specs.RefusalLaws.{same_by, refusal_for, refusal_for_lem}
 use Rattle.contact_types.specs.Prune.{prune_point_at, Answer, refused, keeps, prune_answer, in_struct, answer_of, Pruned}
 use Rattle.contact_types.specs.Pruned.{kept_struct, kept_of}

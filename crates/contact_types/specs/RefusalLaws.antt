@@ -1,5 +1,5 @@
 -- A refusal's number tells the refusal, and is not 0; what is told by a view that can be undone. Assumes nothing.
-use Rattle.std.specs.Prelude.{ℕ, ◌≡◌, refl, ◌⊎◌, Bool, true, false, cond, eqb}
+use Rattle.std.specs.Prelude.{ℕ, ◌≡◌, refl, ◌⊎◌, Bool, false, cond, eqb}
 use Rattle.std.proofs.Common.{sym, ap, ◌∙◌, inl, inr}
 use Rattle.contact_types.specs.Refusals.{number_of}
 use Rattle.contact_types.specs.declared.refusal.Refusal.{Refusal}

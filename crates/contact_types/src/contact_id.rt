@@ -1,5 +1,5 @@
 // A stable identifier of a contact. From avian's contact_types/mod.rs.
-#[derive(Drop)]
+#[derive(Clone, Copy)]
 pub struct ContactId(pub u32);
 
 impl ContactId {

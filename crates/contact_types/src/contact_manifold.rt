@@ -2,7 +2,7 @@
 use math::quat::Quat;
 use math::vec::Vec3;
 
-#[derive(Drop)]
+#[derive(Clone, Copy)]
 pub struct ContactRecyclingCache {
     pub rotation1: Quat,
     pub rotation2: Quat,

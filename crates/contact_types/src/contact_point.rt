@@ -5,7 +5,7 @@ ghost use Rattle.contact_types.specs.Points.{new_point, with_features};
 use crate::feature_id::PackedFeatureId;
 use math::vec::{Vec2, Vec3};
 
-#[derive(Drop)]
+#[derive(Clone, Copy)]
 pub struct ContactPoint {
     // Relative to the bodies' centres of mass, in world space.
     pub anchor1: Vec3,

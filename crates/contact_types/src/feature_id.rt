@@ -2,11 +2,11 @@
 ghost use Rattle.std.specs.Prelude.{◌≡◌, ◌≤◌};
 ghost use Rattle.contact_types.specs.Features.{packed_as, is_kind};
 
-#[derive(Drop)]
+#[derive(Clone, Copy)]
 pub struct PackedFeatureId(pub u32);
 
 // What packing a code gives. The Rust panics where the code is too large.
-#[derive(Drop)]
+#[derive(Clone, Copy)]
 pub enum Packed {
     Id(PackedFeatureId),
     TooLarge,

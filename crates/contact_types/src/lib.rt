@@ -1,4 +1,6 @@
 // Contact ids, features, points by value and the recycling cache; when points match, and pruning. From avian's collision/contact_types.
+#![tactic(auto)]
+
 pub mod contact_id;
 pub mod contact_manifold;
 pub mod contact_point;

@@ -13,7 +13,7 @@ use math::vec::Vec3;
 use words::row::load_float;
 use words::vec::load_vec3;
 
-#[derive(Drop)]
+#[derive(Clone, Copy)]
 pub enum PruneAnswer {
     Kept(KeptPoints),
     Refused(Refusal),

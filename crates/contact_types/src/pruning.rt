@@ -11,35 +11,35 @@ use math::constants::{LOWEST, TINY};
 use math::vec::Vec3;
 
 // What pruning looks at in a point.
-#[derive(Drop)]
+#[derive(Clone, Copy)]
 pub struct PrunePoint {
     pub anchor1: Vec3,
     pub penetration: f32,
 }
 
 // Anchor 1 without its part along the normal, and the squared penetration, at least 1e-6.
-#[derive(Drop)]
+#[derive(Clone, Copy)]
 pub struct Projected {
     pub point: Vec3,
     pub depth: f32,
 }
 
 // The best value so far, and the number of the point that has it, or `NONE`.
-#[derive(Drop)]
+#[derive(Clone, Copy)]
 pub struct Lead {
     pub value: f32,
     pub index: u32,
 }
 
 // Points 3 and 4, or `NONE`.
-#[derive(Drop)]
+#[derive(Clone, Copy)]
 pub struct Sides {
     pub below: u32,
     pub above: u32,
 }
 
 // The numbers of the points that stay: the first `count` of the four. The others are 0.
-#[derive(Drop)]
+#[derive(Clone, Copy)]
 pub struct KeptPoints {
     pub count: u32,
     pub first: u32,

@@ -15,6 +15,8 @@ use contact_types::matching::matches;
 use layout::limits::STORED_POINTS;
 use math::bits::float_of;
 use math::vec::{Vec2, Vec3};
+use std::io;
+use std::io::Write;
 
 // 0, 0.1, 0.05, the floats beside 0.1, -0.1, 0.5.
 const OFFSETS: [u32; 8] = [
@@ -45,7 +47,7 @@ const THRESHOLDS: [u32; 12] = [
 ];
 
 // A manifold's points: the first `count` of the list.
-#[derive(Drop)]
+#[derive(Clone, Copy)]
 struct Points {
     list: [ContactPoint; STORED_POINTS],
     count: u32,
@@ -204,62 +206,64 @@ fn match_all(case: u32, news: Points, by_place: bool) -> Points
     m
 }
 
-fn print_impulses(p: ContactPoint) {
-    print_float(p.warm_start_normal_impulse);
-    print_float(p.warm_start_tangent_impulse.x);
-    print_float(p.warm_start_tangent_impulse.y);
+fn print_impulses<W: Write>(out: &mut W, p: ContactPoint) -> io::Result<()> {
+    print_float(out, p.warm_start_normal_impulse)?;
+    print_float(out, p.warm_start_tangent_impulse.x)?;
+    print_float(out, p.warm_start_tangent_impulse.y)
 }
 
-fn print_line(name: &[u8], c: u32, m: Points)
+fn print_line<W: Write>(out: &mut W, name: &[u8], c: u32, m: Points) -> io::Result<()>
     requires { m.count ≤ stored_points }
 {
-    print_name(name);
-    print_word(c);
+    print_name(out, name)?;
+    print_word(out, c)?;
     let list = m.list;
     let count = m.count as usize;
     let mut j = 0;
     while j < count {
         let p = list[j];
-        print_impulses(p);
+        print_impulses(out, p)?;
         j += 1;
     }
-    print_end();
+    print_end(out)
 }
 
-fn print_case(c: u32, by_place: bool) {
+fn print_case<W: Write>(out: &mut W, c: u32, by_place: bool) -> io::Result<()> {
     let key = draw(c, 1);
     let new = manifold(key, 4);
     let matched = match_all(key, new, by_place);
     if by_place {
-        print_line(b"match_place", c, matched);
+        print_line(out, b"match_place", c, matched)
     } else {
-        print_line(b"match", c, matched);
+        print_line(out, b"match", c, matched)
     }
 }
 
-fn print_single_case(c: u32, by_place: bool) {
+fn print_single_case<W: Write>(out: &mut W, c: u32, by_place: bool) -> io::Result<()> {
     let key = draw(c, 1);
     let new = manifold(key, 4);
     let matched = match_contacts(new, manifold(key, 10), by_place, threshold(key));
     if by_place {
-        print_line(b"match_one_place", c, matched);
+        print_line(out, b"match_one_place", c, matched)
     } else {
-        print_line(b"match_one", c, matched);
+        print_line(out, b"match_one", c, matched)
     }
 }
 
-pub fn print_cases(by_place: bool) {
+pub fn print_cases<W: Write>(out: &mut W, by_place: bool) -> io::Result<()> {
     let mut c = 0;
     while c < 1000 {
-        print_case(c, by_place);
+        print_case(out, c, by_place)?;
         c += 1;
     }
+    Ok(())
 }
 
-pub fn print_single_cases(by_place: bool) {
+pub fn print_single_cases<W: Write>(out: &mut W, by_place: bool) -> io::Result<()> {
     let mut c = 1000;
     while c < 1300 {
-        print_single_case(c, by_place);
+        print_single_case(out, c, by_place)?;
         c += 1;
     }
+    Ok(())
 }

@@ -13,6 +13,8 @@ use layout::prune::{
 };
 use math::bits::bits_of;
 use math::vec::Vec3;
+use std::io;
+use std::io::Write;
 
 // The kind of the floats in a point of each shape: 1 and 9 lie in a plane, 3 on a line; 5, 6 and 7 are copies of 1, 3 and 4 points.
 const KINDS: [u32; 10] = [2, 2, 1, 2, 3, 3, 2, 1, 4, 1];
@@ -127,48 +129,62 @@ fn words(ps: [PrunePoint; PROPOSED_POINTS]) -> [u32; PRUNE_POINTS_LENGTH] {
     ws
 }
 
-fn print_kept(kept: KeptPoints) {
-    print_word(kept.first);
-    print_word(kept.second);
+fn print_kept<W: Write>(out: &mut W, kept: KeptPoints) -> io::Result<()> {
+    print_word(out, kept.first)?;
+    print_word(out, kept.second)?;
     if kept.count > 2 {
-        print_word(kept.third);
+        print_word(out, kept.third)?;
     }
     if kept.count > 3 {
-        print_word(kept.fourth);
+        print_word(out, kept.fourth)?;
     }
+    Ok(())
 }
 
-fn print_answer(answer: PruneAnswer) {
+fn print_answer<W: Write>(out: &mut W, answer: PruneAnswer) -> io::Result<()> {
     match answer {
-        PruneAnswer::Kept(kept) => print_kept(kept),
-        PruneAnswer::Refused(refusal) => print_word(refusal.number()),
+        PruneAnswer::Kept(kept) => print_kept(out, kept),
+        PruneAnswer::Refused(refusal) => print_word(out, refusal.number()),
     }
 }
 
-fn print_pruned(ps: [PrunePoint; PROPOSED_POINTS], count: u32, normal: Vec3, through_words: bool)
+fn print_pruned<W: Write>(
+    out: &mut W,
+    ps: [PrunePoint; PROPOSED_POINTS],
+    count: u32,
+    normal: Vec3,
+    through_words: bool,
+) -> io::Result<()>
     requires { (1 < count) × (count ≤ proposed_points) }
 {
     if through_words {
         let ws = words(ps);
-        print_answer(prune(normal, &ws, count));
+        print_answer(out, prune(normal, &ws, count))
     } else {
-        print_kept(prune_points(ps, count as usize, normal));
+        print_kept(out, prune_points(ps, count as usize, normal))
     }
 }
 
-fn print_case(c: u32) {
+fn print_case<W: Write>(out: &mut W, c: u32) -> io::Result<()> {
     let key = draw(c, 0);
     let ps = points(key, c % 10, draw(key, 3) % 5);
-    print_name(b"prune");
-    print_word(c);
-    print_pruned(ps, many_points(draw(key, 1)), normal(key, 2), c % 3 == 0);
-    print_end();
+    print_name(out, b"prune")?;
+    print_word(out, c)?;
+    print_pruned(
+        out,
+        ps,
+        many_points(draw(key, 1)),
+        normal(key, 2),
+        c % 3 == 0,
+    )?;
+    print_end(out)
 }
 
-pub fn print_cases() {
+pub fn print_cases<W: Write>(out: &mut W) -> io::Result<()> {
     let mut c = 0;
     while c < 1000 {
-        print_case(c);
+        print_case(out, c)?;
         c += 1;
     }
+    Ok(())
 }

@@ -1,7 +1,7 @@
 -- What an update does to the words of a contact's record, and to the graph's. Definitions only.
 use Rattle.std.specs.Prelude.{ℕ, ◌+◌, ◌*◌, List, [], ◌∷◌}
 use Rattle.rows.specs.Rows.{part, put}
-use Rattle.rows.specs.Slots.{updateAt}
+use Rattle.rows.specs.Slots.{update_at}
 use Rattle.rules.specs.Inputs.{Settings, Inputs}
 use Rattle.rules.specs.Records.{Point, Manifold, Pair}
 use Rattle.rules.specs.Update.{Way, skipped, aabbs_disjoint, recycled, full, Updated, updated_between}
@@ -59,7 +59,7 @@ proposal_of proposals id = part proposals (id * proposal_size) proposal_size
 
 unfoldable pub graph_after : Settings → List ℕ → List ℕ → List ℕ → List ℕ → ℕ → List ℕ
 graph_after s colliders bodies proposals g id =
-    updateAt (graph_contacts (capacity_of g)) contact_size (λ i w. record_after s colliders bodies (proposal_of proposals i) i w) g id
+    update_at (graph_contacts (capacity_of g)) contact_size (λ i w. record_after s colliders bodies (proposal_of proposals i) i w) g id
 
 -- what a step's rows are as the rules' inputs
 unfoldable pub inputs_of : Settings → List ℕ → List ℕ → List ℕ → Inputs

@@ -2,7 +2,7 @@
 use Rattle.std.specs.Prelude.{◌≡◌, refl, ℕ, ◌+◌, ◌*◌, ◌<◌, Bool, true, false, cond, not, ◌&&◌, List, ltb, eqb}
 use Rattle.std.proofs.Common.{sym, ap, subst, ◌∙◌, true≢false, ltb-true}
 use Rattle.std.proofs.Math.Option.{Option, none, some}
-use Rattle.std.proofs.lemmas.Bool.{not_true, not-false}
+use Rattle.std.proofs.lemmas.Bool.{not-true, not-false}
 use Rattle.rules.specs.Inputs.{Settings, Collider, Body, ProposedManifold}
 use Rattle.rules.specs.Limits.{colliders, bodies}
 use Rattle.rule_laws.specs.NumberLaws.{every_at}
@@ -73,10 +73,10 @@ module _ (s : Settings) (body : ℕ → Option Body) (answer : Bool) (proposal :
 
 -- the two tests of rule 2
 pub no_overlap : {b o : Bool} (i : Bool) → b ≡ o → not b ≡ true → o && i ≡ false
-no_overlap {b} i e n = ap (λ (x : Bool). x && i) (sym e ∙ not_true b n)
+no_overlap {b} i e n = ap (λ (x : Bool). x && i) (sym e ∙ not-true b n)
 
 pub no_interaction : {b c i : Bool} (o : Bool) → b ≡ o → not b ≡ false → c ≡ i → not c ≡ true → o && i ≡ false
-no_interaction {b} {c} o e n f m = (λ j. (sym e ∙ not-false b n) j && (sym f ∙ not_true c m) j)
+no_interaction {b} {c} o e n f m = (λ j. (sym e ∙ not-false b n) j && (sym f ∙ not-true c m) j)
 
 pub both_hold : {b c o i : Bool} → b ≡ o → not b ≡ false → c ≡ i → not c ≡ false → o && i ≡ true
 both_hold {b} {c} e n f m = (λ j. (sym e ∙ not-false b n) j && (sym f ∙ not-false c m) j)

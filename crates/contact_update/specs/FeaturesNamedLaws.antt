@@ -1,7 +1,7 @@
 -- Where what is proposed leaves no feature at 0, the matching setting changes nothing: not a pair's update, and not a plain step. Assumes nothing.
 use Rattle.std.specs.Prelude.{◌≡◌, ℕ, zero, suc, ◌<◌, Bool, ◌&&◌, ltb, Float, length, get_or}
 use Rattle.std.proofs.Math.Path.{refl, ap}
-use Rattle.std.proofs.Common.{sym, subst, ◌∙◌, not-suc-le-zero, le_of_suc-le-suc, arith, ne_eqb}
+use Rattle.std.proofs.Common.{sym, ◌∙◌, not-suc-le-zero, le_of_suc-le-suc, arith, ne_eqb}
 use Rattle.std.proofs.Math.Bool.{true, false, cond, not}
 use mathlib.Core.List.{List, [], ◌∷◌, map}
 use Rattle.std.proofs.Math.Option.{Option, none, some}
@@ -10,7 +10,7 @@ use Rattle.math.specs.Constants.{zero_f, tenth}
 use Rattle.math.specs.Floats.{◌⊕◌, ◌⊗◌}
 use Rattle.math.specs.declared.vec.Vec3.{Vec3}
 use Rattle.rows.specs.Slots.{AllBelow}
-use Rattle.rules.specs.Filtering.{moved_point, staying, no_point, prune_point, pruned, filtered, is_empty, without_empty}
+use Rattle.rules.specs.Filtering.{moved_point, no_point, prune_point, pruned, filtered, is_empty, without_empty}
 use Rattle.rules.specs.Graph.{Graph}
 use Rattle.rules.specs.Inputs.{Settings, Collider, Body, ProposedPoint, ProposedManifold, Inputs}
 use Rattle.rules.specs.Limits.{stored_points}
@@ -21,7 +21,7 @@ use Rattle.rules.specs.Recycling.{scaled_tolerance, scaled_recycle, tolerance_fo
 use Rattle.rules.specs.Sides.{Side, side_of, overlap, interact}
 use Rattle.rules.specs.Status.{visit_all, standing_bits, max_contact_distance_of, recycled_count, StepResult, plain_step}
 use Rattle.rules.specs.Surface.{Surface, friction_of, restitution_of, clamped_velocity, swept_distance, effective_speculative_of, surface_of}
-use Rattle.rules.specs.Update.{Updated, Way, full, recycled, aabbs_disjoint, body_of, cache_of, enabled, hooked, matched, change_of, remaining, renewed_flags, status_bit, renewed, disjoint, recycled_pair, overlapping, updated_between, updated}
+use Rattle.rules.specs.Update.{Updated, full, recycled, aabbs_disjoint, body_of, cache_of, enabled, hooked, matched, change_of, remaining, renewed_flags, status_bit, renewed, disjoint, overlapping, updated_between, updated}
 use Rattle.rule_laws.specs.FeatureRuleLaws.{AllKnown, place_known_all}
 use Rattle.narrow_phase.specs.KeepingLaws.{kept_below}
 use Rattle.manifold_matching.specs.MatchedFitLaws.{Each, each_none, each_first, each_rest, each_map}

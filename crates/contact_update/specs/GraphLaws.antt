@@ -9,7 +9,7 @@ use Rattle.std.proofs.Math.Dec.{eqb}
 use Rattle.std.specs.Float.Ieee.{binary32, of_bits}
 use Rattle.rows.specs.Rows.{part}
 use Rattle.rows.specs.Laws.{length_part, get_d_part}
-use Rattle.rows.specs.Slots.{upto, Keeps, updateAt}
+use Rattle.rows.specs.Slots.{upto, Keeps, update_at}
 use Rattle.rows.specs.SlotLaws.{length_update_at, part_update_at_same, get_d_update_at_apart, update_at_comm}
 use Rattle.rules.specs.Inputs.{Settings}
 use Rattle.rules.specs.Numbers.{any}
@@ -38,7 +38,7 @@ use Rattle.contact_range.specs.FitsLaws.{fits_same}
 use Rattle.contact_range.specs.Conditions.{RightLength}
 use Rattle.contact_graph.specs.AddedGraphLaws.{right_kept, listed_pair, listed_counted}
 use Rattle.contact_graph.specs.RemovedGraphLaws.{pair_id}
-use Rattle.contact_graph.specs.ImpulseLaws.{map-map}
+use Rattle.contact_graph.specs.ImpulseLaws.{map_map}
 use Rattle.rules.specs.Limits.{pair_manifolds, proposed_points}
 use Rattle.contact_update.specs.After.{record_updated, record_after, proposal_of, graph_after, inputs_of}
 use Rattle.contact_update.specs.Plain.{pair_updated, plain_update}
@@ -121,9 +121,9 @@ module _ (s : Settings) (colliders bodies proposals : List ℕ) where
   unfolding graph_after
   updates_commute {g} i j r n a b =
       let base = graph_contacts (capacity_of g) in
-      ap (λ (c : ℕ). updateAt (graph_contacts c) contact_size change (after g i) j) (after_capacity i r a)
+      ap (λ (c : ℕ). update_at (graph_contacts c) contact_size change (after g i) j) (after_capacity i r a)
       ∙ update_at_comm base contact_size change change_keeps g i j (contact_room r i a) (contact_room r j b) n
-      ∙ ap (λ (c : ℕ). updateAt (graph_contacts c) contact_size change (after g j) i) (sym (after_capacity j r b))
+      ∙ ap (λ (c : ℕ). update_at (graph_contacts c) contact_size change (after g j) i) (sym (after_capacity j r b))
 
   -- ---- one contact's record
   abbrev pub record_of : List ℕ → ℕ → List ℕ
@@ -310,7 +310,7 @@ module _ (s : Settings) (colliders bodies proposals : List ℕ) where
         let h = after g id in
         let change = pair_updated (inputs_of s colliders bodies proposals) id in
         ap (λ (n : ℕ). map (listed_pair h) (upto n)) (listed_kept id c st) ∙ map_upto_same (listed_pair h) (λ p. change (listed_pair g p)) (listed_count g) listed_pair_lem
-        ∙ sym (map-map change (listed_pair g) (upto (listed_count g)))
+        ∙ sym (map_map change (listed_pair g) (upto (listed_count g)))
 
     pub update_graph : graph_of (after g id) ≡ plain_update (inputs_of s colliders bodies proposals) id (graph_of g)
     unfolding graph_of plain_update

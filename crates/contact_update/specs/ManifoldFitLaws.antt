@@ -7,7 +7,6 @@ use Rattle.math.specs.Fit.{FitFloat, FitVec3}
 use Rattle.math.specs.FitLaws.{bits_fit, sum_fits, difference_fits, zero3_fits, dot_fits, vector_sum_fits}
 use Rattle.math.specs.Floats.{◌⊗◌}
 use Rattle.math.specs.declared.vec.Vec3.{Vec3}
-use Rattle.rows.specs.Slots.{upto}
 use Rattle.rules.specs.Filtering.{moved_anchor, normal_speed_at, moved_point, stays, staying, no_point, prune_point, pruned, filtered, is_empty, without_empty}
 use Rattle.rules.specs.Inputs.{Settings, ProposedPoint, ProposedManifold}
 use Rattle.rules.specs.Limits.{pair_manifolds}

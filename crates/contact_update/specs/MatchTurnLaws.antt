@@ -3,7 +3,7 @@ use Rattle.std.specs.Prelude.{◌≡◌, refl, ℕ, ◌+◌, ◌*◌, ◌-◌, �
 use Rattle.std.proofs.Common.{sym, subst, ◌∙◌, zero-add, arith, inr, le-leb}
 use Rattle.std.proofs.Math.Path.{ap}
 use mathlib.Core.List.{List, [], ◌∷◌, map}
-use Rattle.std.proofs.lemmas.Bool.{lt-leb, not_true, not-false}
+use Rattle.std.proofs.lemmas.Bool.{lt-leb, not-true, not-false}
 use Rattle.std.proofs.lemmas.List.{length-map}
 use Rattle.math.specs.Constants.{tenth}
 use Rattle.math.specs.Floats.{◌⊗◌}
@@ -37,7 +37,7 @@ map_same f e (m ∷ ms) = λ i. e m i ∷ map_same f e ms i
 -- ---- how many of the old manifolds there are to match against
 module _ (on : Bool) (new old : ℕ) where
   pub count_off : not on ≡ true → 0 ≡ cond (on && leb new 4) old 0
-  count_off e = let o = not_true on e in sym (rw o)
+  count_off e = let o = not-true on e in sym (rw o)
 
   pub count_many : not on ≡ false → 4 < new → 0 ≡ cond (on && leb new 4) old 0
   count_many e l = let o = not-false on e in let m = lt-leb new 4 l in sym (rw (o, m))

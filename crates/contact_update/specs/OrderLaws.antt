@@ -23,13 +23,13 @@ use Rattle.contact_update.specs.UpdateLaws.{reads_own_record, update_keeps}
 
 module _ (s : Settings) (colliders bodies proposals : List ℕ) where
   -- the contacts of a list, one after another
-  unfoldable pub graphAfterAll : List ℕ → List ℕ → List ℕ
-  graphAfterAll g [] = g
-  graphAfterAll g (id ∷ ids) = graphAfterAll (graph_after s colliders bodies proposals g id) ids
+  unfoldable pub graph_after_all : List ℕ → List ℕ → List ℕ
+  graph_after_all g [] = g
+  graph_after_all g (id ∷ ids) = graph_after_all (graph_after s colliders bodies proposals g id) ids
 
   after_all : (g : List ℕ) (ids : List ℕ) → RightLength g → AllBelow (capacity_of g) ids
-      → graphAfterAll g ids ≡ updates (graph_contacts (capacity_of g)) contact_size (change s colliders bodies proposals) g ids
-  unfolding graphAfterAll updates graph_after
+      → graph_after_all g ids ≡ updates (graph_contacts (capacity_of g)) contact_size (change s colliders bodies proposals) g ids
+  unfolding graph_after_all updates graph_after
   after_all g [] r b = refl
   after_all g (id ∷ ids) r b =
       let h = graph_after s colliders bodies proposals g id in
@@ -41,7 +41,7 @@ module _ (s : Settings) (colliders bodies proposals : List ℕ) where
 
   -- two lists of the same contacts, each once
   pub any_order : (g : List ℕ) (a b : List ℕ) → RightLength g → AllBelow (capacity_of g) a → AllBelow (capacity_of g) b → Distinct a → Distinct b → SameMembers a b
-      → graphAfterAll g a ≡ graphAfterAll g b
+      → graph_after_all g a ≡ graph_after_all g b
   any_order g a b r p q u v m =
       let room : graph_contacts (capacity_of g) + capacity_of g * contact_size ≤ length g = omega (arith, r.size) in
       after_all g a r p

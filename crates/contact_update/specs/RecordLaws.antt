@@ -32,7 +32,7 @@ use Rattle.manifold_records.specs.ListLaws.{get_d_map_upto, length_map_upto, map
 use Rattle.manifold_records.specs.Recorded.{point_at, points_at, manifold_at, manifolds_at}
 use Rattle.manifold_records.specs.Written.{zeros, manifolds_words}
 use Rattle.contact_records.specs.ApartLaws.{vec3_same, names_same, edge_same, manifolds_same, counted_same, cache_same}
-use Rattle.contact_records.specs.BackLaws.{with_state, state_back, counted_state}
+use Rattle.contact_records.proofs.BackLaws.{with_state, state_back, counted_state}
 use Rattle.contact_records.specs.Fit.{FitManifolds, FitPair}
 use Rattle.contact_records.specs.HeldLaws.{Holds, Same, put_holds, holds_left, holds_right, same_in, word_same, first_same}
 use Rattle.layout.specs.Contact.{contact_cache, contact_flags, contact_manifolds, contact_size, contact_speculative_distance}
@@ -44,7 +44,7 @@ use Rattle.contact_records.specs.Written.{int_word, cache_words, flags_words, st
 use Rattle.contact_range.specs.Range.{is_mark, optional_fits}
 use Rattle.contact_range.specs.RangeLaws.{Fitting}
 use Rattle.contact_graph.specs.EffectLaws.{differ, same_or_not}
-use Rattle.contact_graph.specs.ImpulseLaws.{same_offset, same_word, map-map}
+use Rattle.contact_graph.specs.ImpulseLaws.{same_offset, same_word, map_map}
 use Rattle.contact_update.specs.After.{points_put, manifolds_put, disjoint_place, static_place, after_words, record_updated, record_after}
 
 -- ---- lengths
@@ -263,7 +263,7 @@ module _ (v : Vec3 → Point → Float) (p : Pair) (w : List ℕ) (size : length
   -- what the list has at each index
   made_upto : p.manifolds ≡ map (λ m. manifold_with v (manifold_at w (manifold_of m))) (upto count)
   unfolding manifolds_at
-  made_upto = made ∙ map-map (manifold_with v) (λ m. manifold_at w (manifold_of m)) (upto count)
+  made_upto = made ∙ map_map (manifold_with v) (λ m. manifold_at w (manifold_of m)) (upto count)
 
   made_count : length p.manifolds ≡ count
   made_count = ap length made_upto ∙ length_map_upto (λ m. manifold_with v (manifold_at w (manifold_of m))) count
@@ -276,7 +276,7 @@ module _ (v : Vec3 → Point → Float) (p : Pair) (w : List ℕ) (size : length
       → (get_or p.manifolds m d).points ≡ map (λ k. point_with v (vec3_at w (manifold_of m + 1)) (point_at w (point_of m k))) (upto (word_at w (manifold_of m)))
   unfolding manifold_at points_at
   made_points m d l =
-      ap (λ (q : Manifold). q.points) (made_at m d l) ∙ map-map (point_with v (vec3_at w (manifold_of m + 1))) (λ k. point_at w (point_of m k)) (upto (word_at w (manifold_of m)))
+      ap (λ (q : Manifold). q.points) (made_at m d l) ∙ map_map (point_with v (vec3_at w (manifold_of m + 1))) (λ k. point_at w (point_of m k)) (upto (word_at w (manifold_of m)))
 
   made_length : (m : ℕ) (d : Manifold) → m < count → length (get_or p.manifolds m d).points ≡ word_at w (manifold_of m)
   made_length m d l = ap length (made_points m d l) ∙ length_map_upto (λ k. point_with v (vec3_at w (manifold_of m + 1)) (point_at w (point_of m k))) (word_at w (manifold_of m))
@@ -343,7 +343,7 @@ module _ (v : Vec3 → Point → Float) (p : Pair) (w : List ℕ) (size : length
       let n = vec3_at w (manifold_of m + 1) in
       let size = word_at w (manifold_of m) in
       map_upto_same (λ k. point_at ys (point_of m k)) (λ k. point_with v n (point_at w (point_of m k))) size (λ k b. recycled_point_lem m k l b)
-      ∙ sym (map-map (point_with v n) (λ k. point_at w (point_of m k)) (upto size))
+      ∙ sym (map_map (point_with v n) (λ k. point_at w (point_of m k)) (upto size))
 
   recycled_manifold_lem : (m : ℕ) → m < count → manifold_at ys (manifold_of m) ≡ manifold_with v (manifold_at w (manifold_of m))
   unfolding manifold_at

@@ -1,5 +1,5 @@
 -- What one pair's update stores: every float and the count change are values that 32 bits hold, and the lists are within the limits. Assumes nothing.
-use Rattle.std.specs.Prelude.{◌≡◌, ℕ, ◌+◌, ◌-◌, ◌*◌, Bool, cond, ◌&&◌, List, eqb, Float, length}
+use Rattle.std.specs.Prelude.{◌≡◌, ℕ, ◌+◌, ◌*◌, Bool, cond, ◌&&◌, List, eqb, Float, length}
 use Rattle.std.proofs.Common.{subst, SFits}
 use Rattle.std.proofs.Math.Bool.{true, false}
 use Rattle.std.proofs.Math.Option.{Option, none, some}
@@ -12,7 +12,7 @@ use Rattle.rules.specs.Inputs.{Coefficient, Settings, Collider, Body, ProposedMa
 use Rattle.rules.specs.Records.{Manifold, Cache, Pair}
 use Rattle.rules.specs.Recycling.{recycles, recycled_manifold}
 use Rattle.rules.specs.Sides.{overlap, interact, Side, side_of}
-use Rattle.rules.specs.Surface.{or_else, firstGiven, ruled, combine, friction_of, restitution_of, surface_of}
+use Rattle.rules.specs.Surface.{or_else, first_given, ruled, combine, friction_of, restitution_of, surface_of}
 use Rattle.rules.specs.Update.{Updated, body_of, disjoint, recycled_pair, cache_of, change_of, renewed, overlapping, updated_between}
 use Rattle.words.specs.Words.{word_at}
 use Rattle.words.specs.WordLaws.{read_fits, quat_fits}
@@ -23,7 +23,7 @@ use Rattle.layout.specs.Settings.{settings_friction, settings_restitution}
 use Rattle.collider.specs.Recorded.{mark_at, coefficient_at, coefficient_if_at, settings_of, present_collider, collider_at, present_body, body_at}
 use Rattle.manifold_records.specs.Counts.{Counted}
 use Rattle.contact_records.specs.Fit.{FitManifolds, FitCache, FitCached, FitPair}
-use Rattle.contact_records.specs.FitLaws.{pair_fits}
+use Rattle.contact_records.proofs.FitLaws.{pair_fits}
 use Rattle.contact_records.specs.Recorded.{pair_at}
 use Rattle.proposals.specs.Range.{Proposed}
 use Rattle.proposals.specs.Recorded.{proposal_at, hook_at}
@@ -101,7 +101,7 @@ module _ (xs : List ℕ) where
       go false = tt
 
 -- ---- rule 7
-first_given_fits : (o p : Option Coefficient) → FitGiven o → FitGiven p → FitGiven (firstGiven o p)
+first_given_fits : (o p : Option Coefficient) → FitGiven o → FitGiven p → FitGiven (first_given o p)
 first_given_fits none p h k = k
 first_given_fits (some a) p h k = h
 
@@ -124,7 +124,7 @@ combine_fits a b h k = ruled_fits _ a.value b.value h k
 friction_fits : (s : Settings) (c : Collider) (a : Side) → FitSettings s → FitCollider c → FitSide a → FitFloat (friction_of s c a).value
 unfolding friction_of
 friction_fits s c a hs hc ha =
-    else_fits (firstGiven c.friction a.friction) s.default_friction (first_given_fits c.friction a.friction hc.friction ha.friction) hs.friction
+    else_fits (first_given c.friction a.friction) s.default_friction (first_given_fits c.friction a.friction hc.friction ha.friction) hs.friction
 
 restitution_fits : (s : Settings) (c : Collider) → FitSettings s → FitCollider c → FitFloat (restitution_of s c).value
 unfolding restitution_of

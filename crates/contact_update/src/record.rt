@@ -34,7 +34,7 @@ use layout::contact::{
 use words::row::{load_float, load_word, store_word};
 
 // What an update answers: its status bit, whether the pair was recycled, and the reported contact distance.
-#[derive(Drop)]
+#[derive(Clone, Copy)]
 pub struct Outcome {
     pub bit: bool,
     pub recycled: bool,

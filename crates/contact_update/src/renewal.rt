@@ -38,7 +38,7 @@ use narrow_phase::manifold::store_remaining;
 use words::row::{load_word, load_words, store_word};
 
 // What an update makes of a pair besides its manifolds, and what it answers.
-#[derive(Drop)]
+#[derive(Clone, Copy)]
 pub struct Renewal {
     pub flags: ContactPairFlags,
     // The signed count change, as a word.

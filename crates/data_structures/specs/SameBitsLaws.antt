@@ -1,13 +1,12 @@
 -- Words of 64 bits that have the same bits are the same words. Assumes nothing.
-use Rattle.std.specs.Prelude.{ℕ, zero, suc, ◌+◌, ◌*◌, ◌/◌, ◌%◌, ◌^◌, ◌≤◌, ◌<◌, ◌≡◌, refl, Bool, true, false, List, eqb, length, get_or, set}
-use Rattle.std.proofs.Common.{pow-suc, arith, sym, ap, subst, ◌∙◌, inl, inr, eqb-true, length-set, ext_get_or, get_or-set_same, get_or-set_other}
+use Rattle.std.specs.Prelude.{ℕ, zero, suc, ◌+◌, ◌*◌, ◌/◌, ◌%◌, ◌^◌, ◌<◌, ◌≡◌, refl, Bool, true, false, List, eqb, length, get_or, set}
+use Rattle.std.proofs.Common.{pow-suc, arith, sym, ap, subst, ◌∙◌, eqb-true, length-set, ext_get_or, get_or-set_same, get_or-set_other}
 use Rattle.std.proofs.lemmas.Bool.{eqb-false}
 use Rattle.std.specs.Int.Bits.{bit_or}
 use Rattle.std.proofs.lemmas.Nat.{or_lt}
 use Rattle.std.proofs.Math.Pow.{pow-lt}
 use Rattle.rows.specs.Slots.{AllBelow}
 use Rattle.data_structures.specs.BitVec.{bit_of, bit_at, marked}
-use Rattle.data_structures.specs.BitVecLaws.{length_marked}
 use Rattle.data_structures.specs.WordLaws.{bit_first, bit_half}
 
 -- ---- one word

@@ -2,11 +2,11 @@
 ghost use Rattle.std.specs.Prelude.{◌≡◌};
 ghost use Rattle.data_structures.specs.PairKey.{key_of, ids_of};
 
-#[derive(Drop)]
+#[derive(Clone, Copy)]
 pub struct PairKey(pub u64);
 
 // What `get` gives.
-#[derive(Drop)]
+#[derive(Clone, Copy)]
 pub struct PairIds {
     pub lower: u32,
     pub higher: u32,

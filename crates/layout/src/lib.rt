@@ -1,4 +1,6 @@
 // The places and sizes of every record in a lent row, and the limits: a module for each record. specs/ has the same names for the definitions, docs/BUFFERS.md the tables.
+#![tactic(auto)]
+
 pub mod bits;
 pub mod body;
 pub mod change;

@@ -15,13 +15,13 @@ use Rattle.manifold_records.specs.LengthLaws.{length_point, length_manifold}
 use Rattle.manifold_records.specs.ListLaws.{map_upto_next, map_upto_is, get_d_map_upto, length_map_upto}
 use Rattle.manifold_records.specs.Recorded.{point_at, points_at, manifold_at}
 use Rattle.manifold_records.specs.Written.{point_words, manifold_words}
-use Rattle.contact_records.specs.BackLaws.{point_held, manifold_held}
+use Rattle.contact_records.proofs.BackLaws.{point_held, manifold_held}
 use Rattle.contact_records.specs.Fit.{FitManifold, FitManifolds}
-use Rattle.contact_records.specs.FitLaws.{manifold_fits}
-use Rattle.contact_records.specs.HeldLaws.{Holds, put_holds, holds-each}
+use Rattle.contact_records.proofs.FitLaws.{manifold_fits}
+use Rattle.contact_records.specs.HeldLaws.{Holds, put_holds, holds_each}
 use Rattle.manifold_matching.specs.Matched.{impulse_words, manifolds_from, WrittenManifold, WrittenManifolds, OldManifolds, PointMatched, ManifoldMatched, AllMatched, ManifoldsMatched}
 use Rattle.manifold_matching.specs.MatchedFitLaws.{each_upto, all_matched}
-use Rattle.manifold_matching.specs.StoredOverLaws.{put_held, stored-over-each, impulses_stored, points_in, point_stored_lem}
+use Rattle.manifold_matching.specs.StoredOverLaws.{put_held, stored_over_each, impulses_stored, points_in, point_stored_lem}
 
 -- ---- the impulses, word by word
 pub impulses_taken : (xs : List ℕ) (at : ℕ) (olds : List ℕ) (from : ℕ) {n t u : Float} {a b c : List ℕ} → n ≡ float_at olds (from + 13) → a ≡ put xs (at + 13) (float_word n ∷ [])
@@ -137,7 +137,7 @@ contacts_next same square olds xs at k m {ys} fit l room e r =
     let i : k < length a.points = omega arith in
     let held : Holds ys (at + 9 + k * 18) (point_words p) =
     subst (λ (q : Point). Holds ys (at + 9 + k * 18) (point_words q)) (get_d_front f k m.points d)
-    (holds-each point_words 18 length_point (at + 9) a.points k d i (points_in ys at a few h)) in
+    (holds_each point_words 18 length_point (at + 9) a.points k d i (points_in ys at a few h)) in
     stored_again xs at a e (matched_first f (k + 1) m)
     (r.words p (fit.points.each k d l) held ∙ point_stored_lem ys at a k (f p) few i h
     ∙ ap (λ (ps : List Point). put ys at (manifold_words (with_points m ps))) (front_next f k m.points d l))
@@ -227,7 +227,7 @@ all_read : (xs : List ℕ) (at n : ℕ) (ms : List Manifold) → FitManifolds ms
 unfolding manifolds_read
 all_read xs at n ms fit l h =
     ap (manifolds_read xs at) (sym l)
-    ∙ map_upto_is (λ (k : ℕ). manifold_at xs (at + k * 81)) ms (λ k d b. manifold_held (get_or ms k d) (fit.each k d b) (holds-each manifold_words 81 length_manifold at ms k d b h))
+    ∙ map_upto_is (λ (k : ℕ). manifold_at xs (at + k * 81)) ms (λ k d b. manifold_held (get_or ms k d) (fit.each k d b) (holds_each manifold_words 81 length_manifold at ms k d b h))
 
 -- none is matched where the loop begins
 pub manifolds_begin : (xs : List ℕ) (at n : ℕ) → WrittenManifolds xs at n → xs ≡ put xs at (each manifold_words (manifolds_read xs at n))
@@ -253,7 +253,7 @@ module _ (f : Manifold → Manifold) (xs : List ℕ) (at n : ℕ) (ms : List Man
   one_held : Holds ys (at + i * 81) (manifold_words (get_or ms i d))
   one_held =
       subst (λ (m : Manifold). Holds ys (at + i * 81) (manifold_words m)) (get_d_front f i ms d)
-      (holds-each manifold_words 81 length_manifold at (front f i ms) i d (omega (arith, front_length)) front_held)
+      (holds_each manifold_words 81 length_manifold at (front f i ms) i d (omega (arith, front_length)) front_held)
 
   -- and is changed
   front_stored : {zs : List ℕ} → zs ≡ put ys (at + i * 81) (manifold_words (f (get_or ms i d))) → zs ≡ put xs at (each manifold_words (front f (i + 1) ms))
@@ -261,7 +261,7 @@ module _ (f : Manifold → Manifold) (xs : List ℕ) (at n : ℕ) (ms : List Man
       let next = front f (i + 1) ms in
       let a = words_count (front f i ms) n front_length in
       let b = words_count next n (length_front f (i + 1) ms ∙ count) in
-      p ∙ stored-over-each manifold_words 81 length_manifold ys at (front f i ms) i (f (get_or ms i d)) (omega (arith, front_length)) front_held
+      p ∙ stored_over_each manifold_words 81 length_manifold ys at (front f i ms) i (f (get_or ms i d)) (omega (arith, front_length)) front_held
       ∙ ap (λ (us : List Manifold). put ys at (each manifold_words us)) (front_next f i ms d (omega arith))
       ∙ ap (λ (ws : List ℕ). put ws at (each manifold_words next)) e ∙ put_put xs at (each manifold_words (front f i ms)) (each manifold_words next) (a ∙ sym b)
 

@@ -47,16 +47,16 @@ stored_over xs at us vs ws new n e l h =
     ∙ held_before xs at us (new ++ ws) n e (holds_left us (vs ++ ws) h)
 
 -- the words of an array's structs, n for each: a store over those of struct k
-pub stored-over-each {ℓ} : {A : Type ℓ} (f : A → List ℕ) (n : ℕ) (size : (a : A) → length (f a) ≡ n) (xs : List ℕ) (at : ℕ) (us : List A) (k : ℕ) (u : A) → k < length us
+pub stored_over_each {ℓ} : {A : Type ℓ} (f : A → List ℕ) (n : ℕ) (size : (a : A) → length (f a) ≡ n) (xs : List ℕ) (at : ℕ) (us : List A) (k : ℕ) (u : A) → k < length us
     → Holds xs at (each f us) → put xs (at + k * n) (f u) ≡ put xs at (each f (set us k u))
-stored-over-each f n size xs at [] k u l h = absurd (not-suc-le-zero l)
-stored-over-each f n size xs at (v ∷ us) zero u l h =
+stored_over_each f n size xs at [] k u l h = absurd (not-suc-le-zero l)
+stored_over_each f n size xs at (v ∷ us) zero u l h =
     ap (λ (m : ℕ). put xs m (f u)) (ap (λ (m : ℕ). at + m) (zero-mul n) ∙ add-zero at)
     ∙ held_after xs at (f u) (each f us) n (size u) (holds_right (f v) (each f us) n (size v) h)
-stored-over-each f n size xs at (v ∷ us) (suc k) u l h =
+stored_over_each f n size xs at (v ∷ us) (suc k) u l h =
     let e : at + suc k * n ≡ at + n + k * n = omega (arith, suc-mul k n) in
     ap (λ (m : ℕ). put xs m (f u)) e
-    ∙ stored-over-each f n size xs (at + n) us k u (le_of_suc-le-suc l) (holds_right (f v) (each f us) n (size v) h)
+    ∙ stored_over_each f n size xs (at + n) us k u (le_of_suc-le-suc l) (holds_right (f v) (each f us) n (size v) h)
     ∙ held_before xs at (f v) (each f (set us k u)) n (size v) (holds_left (f v) (each f us) h)
 
 -- ---- a point: the impulses of another are stored over its own
@@ -104,5 +104,5 @@ points_stored xs at m ps few e h =
 pub point_stored_lem : (xs : List ℕ) (at : ℕ) (m : Manifold) (k : ℕ) (p : Point) → length m.points ≤ 4 → k < length m.points → Holds xs at (manifold_words m)
     → put xs (at + 9 + k * 18) (point_words p) ≡ put xs at (manifold_words (with_points m (set m.points k p)))
 point_stored_lem xs at m k p few l h =
-    stored-over-each point_words 18 length_point xs (at + 9) m.points k p l (points_in xs at m few h)
+    stored_over_each point_words 18 length_point xs (at + 9) m.points k p l (points_in xs at m few h)
     ∙ points_stored xs at m (set m.points k p) few (length-set m.points k p) h

@@ -1,8 +1,6 @@
 -- Structs made of words, field by field: what each call gives, put together. Assumes nothing.
 use Rattle.std.specs.Prelude.{◌≡◌, ℕ, List, Float}
 use Rattle.std.proofs.Common.{ap, ◌∙◌, add-zero, add_assoc}
-use Rattle.std.specs.Float.{binary32}
-use Rattle.std.specs.Float.Ieee.{of_bits}
 use Rattle.math.specs.declared.vec.Vec3.{Vec3}
 use Rattle.rows.specs.Rows.{part}
 use Rattle.rows.specs.Laws.{get_d_part_lit}

@@ -1,5 +1,4 @@
 -- A quaternion's matrix, and a matrix applied, as the specification, 'Float leaves', writes them. Definitions only.
-use Rattle.std.specs.Prelude.{Float}
 use Rattle.math.specs.Floats.{◌⊕◌, ◌⊖◌, ◌⊗◌}
 use Rattle.math.specs.Constants.{one}
 use Rattle.math.specs.Vec.{vec3, ◌+v◌, ◌*v◌}

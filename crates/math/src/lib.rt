@@ -1,5 +1,7 @@
 // The float leaves: 32-bit floats by value, each operation rounded once in the written order.
 // From avian's math/mod.rs and physics_transform/transform.rs; glam's functions by glam's names.
+#![tactic(auto)]
+
 pub mod bits;
 pub mod choose;
 pub mod constants;

@@ -5,7 +5,7 @@ ghost use Rattle.math.specs.Mat.{matrix, ◌*m◌};
 use crate::quat::Quat;
 use crate::vec::Vec3;
 
-#[derive(Drop)]
+#[derive(Clone, Copy)]
 pub struct Mat3 {
     pub x_axis: Vec3,
     pub y_axis: Vec3,

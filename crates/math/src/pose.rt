@@ -5,7 +5,7 @@ ghost use Rattle.math.specs.Pose.{relative};
 use crate::quat::Quat;
 use crate::vec::Vec3;
 
-#[derive(Drop)]
+#[derive(Clone, Copy)]
 pub struct Pose {
     pub position: Vec3,
     pub rotation: Quat,

@@ -4,7 +4,7 @@ ghost use Rattle.math.specs.Quat.{axis, dot4, times, inverse, rotate, chord_leng
 
 use crate::vec::Vec3;
 
-#[derive(Drop)]
+#[derive(Clone, Copy)]
 pub struct Quat {
     pub x: f32,
     pub y: f32,

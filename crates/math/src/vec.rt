@@ -4,13 +4,13 @@ ghost use Rattle.math.specs.Vec.{vec3, ◌+v◌, ◌-v◌, ◌*v◌, negated, do
 
 use crate::root::root;
 
-#[derive(Drop)]
+#[derive(Clone, Copy)]
 pub struct Vec2 {
     pub x: f32,
     pub y: f32,
 }
 
-#[derive(Drop)]
+#[derive(Clone, Copy)]
 pub struct Vec3 {
     pub x: f32,
     pub y: f32,

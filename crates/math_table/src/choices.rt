@@ -2,6 +2,8 @@
 use crate::line::print_line;
 use math::bits::{bits_of, float_of};
 use math::choose::{maximum, minimum};
+use std::io;
+use std::io::Write;
 
 // NaN, the infinities, the zeros, 1 and -1, the least and the largest subnormal, the largest and the lowest.
 const OPERANDS: [u32; 12] = [
@@ -19,25 +21,27 @@ const OPERANDS: [u32; 12] = [
     0xff7f_ffff,
 ];
 
-fn print_choice(a: u32, b: u32) {
+fn print_choice<W: Write>(out: &mut W, a: u32, b: u32) -> io::Result<()> {
     let larger = [a, b, bits_of(maximum(float_of(a), float_of(b)))];
-    print_line(b"maximum", &larger);
+    print_line(out, b"maximum", &larger)?;
     let smaller = [a, b, bits_of(minimum(float_of(a), float_of(b)))];
-    print_line(b"minimum", &smaller);
+    print_line(out, b"minimum", &smaller)
 }
 
-fn print_choices_with(a: u32) {
+fn print_choices_with<W: Write>(out: &mut W, a: u32) -> io::Result<()> {
     let mut k = 0;
     while k < 12 {
-        print_choice(a, OPERANDS[k]);
+        print_choice(out, a, OPERANDS[k])?;
         k += 1;
     }
+    Ok(())
 }
 
-pub fn print_choices() {
+pub fn print_choices<W: Write>(out: &mut W) -> io::Result<()> {
     let mut k = 0;
     while k < 12 {
-        print_choices_with(OPERANDS[k]);
+        print_choices_with(out, OPERANDS[k])?;
         k += 1;
     }
+    Ok(())
 }

@@ -6,13 +6,15 @@ ghost use Rattle.std.specs.Prelude.{◌<◌};
 use crate::line::print_line;
 use math::bits::{bits_of, float_of};
 use math::root::{guess, root};
+use std::io;
+use std::io::Write;
 
 // The most last places that a root may be corrected by.
 const MOST: u32 = 2;
 
 // How many guesses lie below the root's digits, on them and above them, by MOST at most; how many are
 // further off; and the most that one is off.
-#[derive(Drop)]
+#[derive(Clone, Copy)]
 struct Tally {
     below: u32,
     on: u32,
@@ -142,9 +144,9 @@ fn counted_from(tally: Tally, first: u32, count: u32) -> Tally {
     t
 }
 
-fn print_tally(name: &[u8], field: u32, t: Tally) {
+fn print_tally<W: Write>(out: &mut W, name: &[u8], field: u32, t: Tally) -> io::Result<()> {
     let words = [field, t.below, t.on, t.above, t.beyond, t.greatest];
-    print_line(name, &words);
+    print_line(out, name, &words)
 }
 
 const NONE: Tally = Tally {
@@ -156,37 +158,36 @@ const NONE: Tally = Tally {
 };
 
 // The first eight floats of an exponent, zero left out, the last eight, squares and random ones.
-fn print_some(field: u32) -> u32
+fn print_some<W: Write>(out: &mut W, field: u32) -> io::Result<u32>
     requires { field < 255 }
 {
     let first = counted_from(NONE, larger(field * 0x80_0000, 1), 8);
     let ends = counted_from(first, field * 0x80_0000 + 0x7f_fff8, 8);
     let t = counted_random(counted_squares(ends, field), field);
-    print_tally(b"corrected", field, t);
-    t.greatest
+    print_tally(out, b"corrected", field, t)?;
+    Ok(t.greatest)
 }
 
-fn print_all(field: u32) -> u32
+fn print_all<W: Write>(out: &mut W, field: u32) -> io::Result<u32>
     requires { field < 255 }
 {
     let t = counted_from(NONE, field * 0x80_0000, 0x80_0000);
-    print_tally(b"corrected all", field, t);
-    t.greatest
+    print_tally(out, b"corrected all", field, t)?;
+    Ok(t.greatest)
 }
 
 // A line for each exponent's field, and one for the most that a root was corrected by. Above MOST
 // that line has another name.
-pub fn print_corrections() {
-    let mut greatest = larger(print_all(127), print_all(128));
+pub fn print_corrections<W: Write>(out: &mut W) -> io::Result<()> {
+    let mut greatest = larger(print_all(out, 127)?, print_all(out, 128)?);
     let mut field = 0;
     while field < 255 {
-        greatest = larger(greatest, print_some(field));
+        greatest = larger(greatest, print_some(out, field)?);
         field += 1;
     }
     let words = [greatest];
     if greatest > MOST {
-        print_line(b"corrected by too much", &words);
-        return;
+        return print_line(out, b"corrected by too much", &words);
     }
-    print_line(b"corrected by at most", &words);
+    print_line(out, b"corrected by at most", &words)
 }

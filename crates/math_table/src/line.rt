@@ -1,10 +1,11 @@
 // A line of the table: a name, then each word after a tab.
 ghost use Rattle.std.specs.Prelude.{◌≡◌, ◌+◌, ◌<◌, ◌≤◌, length};
 
-use libc::STDOUT_FILENO;
 use math::bits::bits_of;
 use math::quat::Quat;
 use math::vec::Vec3;
+use std::io;
+use std::io::Write;
 
 const DIGITS: [u8; 16] = *b"0123456789ABCDEF";
 
@@ -29,7 +30,7 @@ fn put_hex(text: &mut [u8; 128], at: usize, word: u32)
     }
 }
 
-pub fn print_line(name: &[u8], words: &[u32])
+pub fn print_line<W: Write>(out: &mut W, name: &[u8], words: &[u32]) -> io::Result<()>
     requires { length words.now ≤ 14 }
 {
     let mut text = [0u8; 128];
@@ -40,21 +41,21 @@ pub fn print_line(name: &[u8], words: &[u32])
     }
     let end = k * 9;
     text[end] = b'\n';
-    io::write_all(STDOUT_FILENO, name);
-    io::write_all(STDOUT_FILENO, &text[..end + 1]);
+    out.write_all(name)?;
+    out.write_all(&text[..end + 1])
 }
 
-pub fn print_float(name: &[u8], x: f32) {
+pub fn print_float<W: Write>(out: &mut W, name: &[u8], x: f32) -> io::Result<()> {
     let words = [bits_of(x)];
-    print_line(name, &words);
+    print_line(out, name, &words)
 }
 
-pub fn print_vector(name: &[u8], v: Vec3) {
+pub fn print_vector<W: Write>(out: &mut W, name: &[u8], v: Vec3) -> io::Result<()> {
     let words = [bits_of(v.x), bits_of(v.y), bits_of(v.z)];
-    print_line(name, &words);
+    print_line(out, name, &words)
 }
 
-pub fn print_quat(name: &[u8], q: Quat) {
+pub fn print_quat<W: Write>(out: &mut W, name: &[u8], q: Quat) -> io::Result<()> {
     let words = [bits_of(q.x), bits_of(q.y), bits_of(q.z), bits_of(q.w)];
-    print_line(name, &words);
+    print_line(out, name, &words)
 }

@@ -1,6 +1,8 @@
 // Prints a table of what the float leaves give, a line for each result, floats as the hex digits of
 // their bits; and for each exponent a line of counts, how far guesses lie from the root's digits. The
 // file stdout holds what the hardware's floats give (tests/math_table.c).
+#![tactic(auto)]
+
 mod choices;
 mod corrections;
 mod line;
@@ -9,13 +11,18 @@ mod quats;
 mod roots;
 mod vectors;
 
-fn main() {
-    roots::print_fields();
-    roots::print_squares();
-    roots::print_specials();
-    corrections::print_corrections();
-    choices::print_choices();
-    vectors::print_vectors();
-    vectors::print_lengths_kept();
-    quats::print_quats();
+use std::io;
+use std::io::{BufWriter, Write};
+
+fn main(rt: HostRuntime) -> io::Result<()> {
+    let mut out = BufWriter::new(rt.alloc(), rt.stdout())?;
+    roots::print_fields(&mut out)?;
+    roots::print_squares(&mut out)?;
+    roots::print_specials(&mut out)?;
+    corrections::print_corrections(&mut out)?;
+    choices::print_choices(&mut out)?;
+    vectors::print_vectors(&mut out)?;
+    vectors::print_lengths_kept(&mut out)?;
+    quats::print_quats(&mut out)?;
+    out.flush()
 }

@@ -8,30 +8,32 @@ use math::mat::Mat3;
 use math::pose::Pose;
 use math::quat::Quat;
 use math::vec::Vec3;
+use std::io;
+use std::io::Write;
 
-fn print_rotations(a: Quat, b: Quat, v: Vec3) {
-    print_float(b"dot4", a.dot(b));
-    print_quat(b"mul_quat", a.mul_quat(b));
-    print_quat(b"inverse", a.inverse());
-    print_vector(b"mul_vec3", a.mul_vec3(v));
-    print_float(b"chord_length", a.chord_length());
+fn print_rotations<W: Write>(out: &mut W, a: Quat, b: Quat, v: Vec3) -> io::Result<()> {
+    print_float(out, b"dot4", a.dot(b))?;
+    print_quat(out, b"mul_quat", a.mul_quat(b))?;
+    print_quat(out, b"inverse", a.inverse())?;
+    print_vector(out, b"mul_vec3", a.mul_vec3(v))?;
+    print_float(out, b"chord_length", a.chord_length())
 }
 
-fn print_matrix(a: Quat, v: Vec3) {
+fn print_matrix<W: Write>(out: &mut W, a: Quat, v: Vec3) -> io::Result<()> {
     let m = Mat3::from_quat(a);
-    print_vector(b"x_axis", m.x_axis);
-    print_vector(b"y_axis", m.y_axis);
-    print_vector(b"z_axis", m.z_axis);
-    print_vector(b"matrix_mul_vec3", m.mul_vec3(v));
+    print_vector(out, b"x_axis", m.x_axis)?;
+    print_vector(out, b"y_axis", m.y_axis)?;
+    print_vector(out, b"z_axis", m.z_axis)?;
+    print_vector(out, b"matrix_mul_vec3", m.mul_vec3(v))
 }
 
-fn print_relative(a: Pose, b: Pose) {
+fn print_relative<W: Write>(out: &mut W, a: Pose, b: Pose) -> io::Result<()> {
     let r = a.relative(b);
-    print_vector(b"position", r.position);
-    print_quat(b"rotation", r.rotation);
+    print_vector(out, b"position", r.position)?;
+    print_quat(out, b"rotation", r.rotation)
 }
 
-fn print_operands(a: Quat, b: Quat, v: Vec3, u: Vec3) {
+fn print_operands<W: Write>(out: &mut W, a: Quat, b: Quat, v: Vec3, u: Vec3) -> io::Result<()> {
     let words = [
         bits_of(a.x),
         bits_of(a.y),
@@ -48,20 +50,21 @@ fn print_operands(a: Quat, b: Quat, v: Vec3, u: Vec3) {
         bits_of(u.y),
         bits_of(u.z),
     ];
-    print_line(b"quats", &words);
+    print_line(out, b"quats", &words)
 }
 
-fn print_case(c: u32, tame: bool)
+fn print_case<W: Write>(out: &mut W, c: u32, tame: bool) -> io::Result<()>
     requires { c < 256 }
 {
     let a = quat(c, tame, 1);
     let b = quat(c, tame, 10);
     let v = vector(c, tame, 5);
     let u = vector(c, tame, 14);
-    print_operands(a, b, v, u);
-    print_rotations(a, b, v);
-    print_matrix(a, v);
+    print_operands(out, a, b, v, u)?;
+    print_rotations(out, a, b, v)?;
+    print_matrix(out, a, v)?;
     print_relative(
+        out,
         Pose {
             position: v,
             rotation: a,
@@ -70,15 +73,16 @@ fn print_case(c: u32, tame: bool)
             position: u,
             rotation: b,
         },
-    );
+    )
 }
 
 // Each case with every pattern, and tame.
-pub fn print_quats() {
+pub fn print_quats<W: Write>(out: &mut W) -> io::Result<()> {
     let mut c = 0;
     while c < 40 {
-        print_case(c, false);
-        print_case(c, true);
+        print_case(out, c, false)?;
+        print_case(out, c, true)?;
         c += 1;
     }
+    Ok(())
 }

@@ -5,24 +5,26 @@ use crate::line::{print_float, print_line, print_vector};
 use crate::patterns::{pattern, value, vector};
 use math::bits::bits_of;
 use math::vec::Vec3;
+use std::io;
+use std::io::Write;
 
-fn print_sums(a: Vec3, b: Vec3, k: f32) {
-    print_vector(b"add", a.add(b));
-    print_vector(b"sub", a.sub(b));
-    print_vector(b"mul", a.mul(k));
-    print_vector(b"neg", a.neg());
+fn print_sums<W: Write>(out: &mut W, a: Vec3, b: Vec3, k: f32) -> io::Result<()> {
+    print_vector(out, b"add", a.add(b))?;
+    print_vector(out, b"sub", a.sub(b))?;
+    print_vector(out, b"mul", a.mul(k))?;
+    print_vector(out, b"neg", a.neg())
 }
 
-fn print_products(a: Vec3, b: Vec3, k: f32) {
-    print_float(b"dot", a.dot(b));
-    print_vector(b"cross", a.cross(b));
-    print_float(b"length", a.length());
-    print_float(b"distance_squared", a.distance_squared(b));
-    print_vector(b"clamp_length_max", a.clamp_length_max(k));
-    print_vector(b"reject_from_normalized", a.reject_from_normalized(b));
+fn print_products<W: Write>(out: &mut W, a: Vec3, b: Vec3, k: f32) -> io::Result<()> {
+    print_float(out, b"dot", a.dot(b))?;
+    print_vector(out, b"cross", a.cross(b))?;
+    print_float(out, b"length", a.length())?;
+    print_float(out, b"distance_squared", a.distance_squared(b))?;
+    print_vector(out, b"clamp_length_max", a.clamp_length_max(k))?;
+    print_vector(out, b"reject_from_normalized", a.reject_from_normalized(b))
 }
 
-fn print_case(c: u32, tame: bool)
+fn print_case<W: Write>(out: &mut W, c: u32, tame: bool) -> io::Result<()>
     requires { c < 256 }
 {
     let a = vector(c, tame, 1);
@@ -37,32 +39,34 @@ fn print_case(c: u32, tame: bool)
         bits_of(b.z),
         bits_of(k),
     ];
-    print_line(b"vectors", &words);
-    print_sums(a, b, k);
-    print_products(a, b, k);
+    print_line(out, b"vectors", &words)?;
+    print_sums(out, a, b, k)?;
+    print_products(out, a, b, k)
 }
 
 // Each case with every pattern, and tame.
-pub fn print_vectors() {
+pub fn print_vectors<W: Write>(out: &mut W) -> io::Result<()> {
     let mut c = 0;
     while c < 40 {
-        print_case(c, false);
-        print_case(c, true);
+        print_case(out, c, false)?;
+        print_case(out, c, true)?;
         c += 1;
     }
+    Ok(())
 }
 
 // The maximum is the length, or its opposite: the vector is kept.
-fn print_kept(x: f32) {
+fn print_kept<W: Write>(out: &mut W, x: f32) -> io::Result<()> {
     let r = Vec3::new(x, 0.0, 0.0).clamp_length_max(x);
     let words = [bits_of(x), bits_of(r.x), bits_of(r.y), bits_of(r.z)];
-    print_line(b"kept", &words);
+    print_line(out, b"kept", &words)
 }
 
-pub fn print_lengths_kept() {
+pub fn print_lengths_kept<W: Write>(out: &mut W) -> io::Result<()> {
     let mut k = 0;
     while k < 31 {
-        print_kept(pattern(k));
+        print_kept(out, pattern(k))?;
         k += 1;
     }
+    Ok(())
 }

@@ -22,7 +22,7 @@ use Rattle.contact_types.specs.declared.pruning.KeptPoints.{KeptPoints}
 use Rattle.contact_types.specs.declared.pruning.PrunePoint.{PrunePoint}
 use Rattle.rules.specs.Limits.{proposed_points}
 use Rattle.narrow_phase.specs.Keeping.{Viewed, KeptNumbers, PlaceOf, Picked, PickedKept}
-use Rattle.narrow_phase.specs.ListLaws.{view_at, length_view, in_range_lem, four-first, none_below, one_below}
+use Rattle.narrow_phase.specs.ListLaws.{view_at, length_view, in_range_lem, four_first, none_below, one_below}
 use Rattle.narrow_phase.specs.Views.{first_points, PrunedTo}
 use Rattle.narrow_phase.specs.declared.manifold.ManifoldPoints.{ManifoldPoints}
 
@@ -149,7 +149,7 @@ first_picked n from k r h l e p =
     let m : r.count ≡ n = p.count ∙ ap (λ (x : KeptPoints). x.count) e in
     let got : r.points ≡ get_or from 0 d ∷ get_or from 1 d ∷ get_or from 2 d ∷ get_or from 3 d ∷ [] = p.four ∙ (λ z. one z ∷ two z ∷ three z ∷ four z ∷ []) in
     record {
-      points = (λ z. map point_of (take (m z) (got z))) ∙ ap (map point_of) (four-first n from d h (omega (arith, l)));
+      points = (λ z. map point_of (take (m z) (got z))) ∙ ap (map point_of) (four_first n from d h (omega (arith, l)));
       few = omega (arith, m);
       four = ap length p.four;
     }

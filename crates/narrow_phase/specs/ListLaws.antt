@@ -40,17 +40,17 @@ in_range_lem (x ∷ xs) zero d e h = refl
 in_range_lem (x ∷ xs) (suc k) d e h = in_range_lem xs k d e (le_of_suc-le-suc h)
 
 -- the first four elements, by their numbers
-pub four-first {ℓ} : {A : Type ℓ} (n : ℕ) (xs : List A) (d : A) → n ≤ 4 → 4 ≤ length xs → take n (get_or xs 0 d ∷ get_or xs 1 d ∷ get_or xs 2 d ∷ get_or xs 3 d ∷ []) ≡ take n xs
-four-first n [] d h l = absurd (not-suc-le-zero l)
-four-first n (a ∷ []) d h l = absurd (not-suc-le-zero (le_of_suc-le-suc l))
-four-first n (a ∷ b ∷ []) d h l = absurd (not-suc-le-zero (le_of_suc-le-suc (le_of_suc-le-suc l)))
-four-first n (a ∷ b ∷ c ∷ []) d h l = absurd (not-suc-le-zero (le_of_suc-le-suc (le_of_suc-le-suc (le_of_suc-le-suc l))))
-four-first zero (a ∷ b ∷ c ∷ e ∷ xs) d h l = refl
-four-first (suc zero) (a ∷ b ∷ c ∷ e ∷ xs) d h l = refl
-four-first (suc (suc zero)) (a ∷ b ∷ c ∷ e ∷ xs) d h l = refl
-four-first (suc (suc (suc zero))) (a ∷ b ∷ c ∷ e ∷ xs) d h l = refl
-four-first (suc (suc (suc (suc zero)))) (a ∷ b ∷ c ∷ e ∷ xs) d h l = refl
-four-first (suc (suc (suc (suc (suc n))))) (a ∷ b ∷ c ∷ e ∷ xs) d h l = absurd (omega arith)
+pub four_first {ℓ} : {A : Type ℓ} (n : ℕ) (xs : List A) (d : A) → n ≤ 4 → 4 ≤ length xs → take n (get_or xs 0 d ∷ get_or xs 1 d ∷ get_or xs 2 d ∷ get_or xs 3 d ∷ []) ≡ take n xs
+four_first n [] d h l = absurd (not-suc-le-zero l)
+four_first n (a ∷ []) d h l = absurd (not-suc-le-zero (le_of_suc-le-suc l))
+four_first n (a ∷ b ∷ []) d h l = absurd (not-suc-le-zero (le_of_suc-le-suc (le_of_suc-le-suc l)))
+four_first n (a ∷ b ∷ c ∷ []) d h l = absurd (not-suc-le-zero (le_of_suc-le-suc (le_of_suc-le-suc (le_of_suc-le-suc l))))
+four_first zero (a ∷ b ∷ c ∷ e ∷ xs) d h l = refl
+four_first (suc zero) (a ∷ b ∷ c ∷ e ∷ xs) d h l = refl
+four_first (suc (suc zero)) (a ∷ b ∷ c ∷ e ∷ xs) d h l = refl
+four_first (suc (suc (suc zero))) (a ∷ b ∷ c ∷ e ∷ xs) d h l = refl
+four_first (suc (suc (suc (suc zero)))) (a ∷ b ∷ c ∷ e ∷ xs) d h l = refl
+four_first (suc (suc (suc (suc (suc n))))) (a ∷ b ∷ c ∷ e ∷ xs) d h l = absurd (omega arith)
 
 pub one_most : {n : ℕ} (b : Bool) → n ≡ cond b 1 0 → n ≤ 1
 one_most true e = omega arith

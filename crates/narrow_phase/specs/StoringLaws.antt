@@ -5,7 +5,7 @@ use Rattle.std.proofs.Common.{◌∙◌, inr, length-append}
 use native.Mathlib.Omega.{arith}
 use Rattle.std.proofs.Math.Bool.{true, false, cond}
 use mathlib.Core.List.{List, [], ◌∷◌, ◌++◌, map, append-nil}
-use borrow.Author.Tests.{le-ltb, not_true, not-false}
+use borrow.Author.Tests.{le-ltb, not-true, not-false}
 use Rattle.math.specs.Vec.{zero3}
 use Rattle.math.specs.declared.vec.Vec3.{Vec3}
 use Rattle.rows.specs.Rows.{put, each}
@@ -46,8 +46,8 @@ module _ {A : Type 0} (f : A → List ℕ) (n : ℕ) (size : (a : A) → length 
       ∙ ap (λ (vs : List ℕ). put xs at (each f us ++ vs)) (sym (append-nil (f a)))
       ∙ ap (put xs at) (sym (each_append f us (a ∷ [])))
 
-length-next {ℓ} : {A : Type ℓ} (us : List A) (a : A) {c : ℕ} → length us ≡ c → length (us ++ a ∷ []) ≡ c + 1
-length-next us a e = length-append us (a ∷ []) ∙ ap (λ (k : ℕ). k + 1) e
+length_next {ℓ} : {A : Type ℓ} (us : List A) (a : A) {c : ℕ} → length us ≡ c → length (us ++ a ∷ []) ≡ c + 1
+length_next us a e = length-append us (a ∷ []) ∙ ap (λ (k : ℕ). k + 1) e
 
 -- ---- points
 module _ (t d : Float) (f : ProposedPoint → Point) (w : List ℕ) (from k : ℕ) (xs : List ℕ) (at c : ℕ) {ys : List ℕ} {q : ContactPoint} {b : Bool}
@@ -68,7 +68,7 @@ module _ (t d : Float) (f : ProposedPoint → Point) (w : List ℕ) (from k : �
       subst (λ (ps : List Point). PointsStored ps at xs zs n) (sym (goes_on true e))
       (record {
         words = next_stored point_words 18 length_point xs at (stayed k) c next before.words before.count (s ∙ ap (λ (p : Point). put ys (at + c * 18) (point_words p)) moved);
-        count = length-next (stayed k) next before.count ∙ sym m;
+        count = length_next (stayed k) next before.count ∙ sym m;
         few = omega arith;
       })
 
@@ -99,9 +99,9 @@ listed_stored ps r {at} {xs} p e =
     }
 
 -- ---- a manifold: its points, zeros after them, and what they share before them
-none-empty {ℓ} : {A : Type ℓ} (us : List A) → length us ≡ 0 → is_empty us ≡ true
-none-empty [] e = refl
-none-empty (a ∷ us) e = absurd (omega arith)
+none_empty {ℓ} : {A : Type ℓ} (us : List A) → length us ≡ 0 → is_empty us ≡ true
+none_empty [] e = refl
+none_empty (a ∷ us) e = absurd (omega arith)
 
 some_left {ℓ} : {A : Type ℓ} (us : List A) → (length us ≡ 0 → ⊥) → is_empty us ≡ false
 some_left [] n = absurd (n refl)
@@ -147,7 +147,7 @@ module _ (w : List ℕ) (from : ℕ) (t : Float) (a b : Side) (f : Surface) (at 
       let p = points_left in
       let none = p.count ∙ e in
       record {
-        words = p.words ∙ nothing_put xs (at + 9) left.points none ∙ ap (λ (s : Bool). cond s xs (put xs at (manifold_words left))) (sym (none-empty left.points none));
+        words = p.words ∙ nothing_put xs (at + 9) left.points none ∙ ap (λ (s : Bool). cond s xs (put xs at (manifold_words left))) (sym (none_empty left.points none));
         count = none;
         few = omega arith;
       }
@@ -180,14 +180,14 @@ module _ (f : ProposedManifold → Manifold) (h : ℕ → ProposedManifold) (k :
       subst (λ (ms : List Manifold). ManifoldsStored ms at xs zs n) (sym g.1)
       (record {
         words = next_stored manifold_words 81 length_manifold xs at (kept k) c (f (h k)) before.words before.count g.0;
-        count = length-next (kept k) (f (h k)) before.count ∙ sym m;
+        count = length_next (kept k) (f (h k)) before.count ∙ sym m;
         few = omega arith;
       })
 
   -- the manifold is empty, and the next one takes its place
   pub manifold_goes : {n : ℕ} → r ≡ 0 → n ≡ c → ManifoldsStored (kept (k + 1)) at xs zs n
   manifold_goes {n} none m =
-      let g = runs_on true (none-empty (f (h k)).points (this.count ∙ none)) in
+      let g = runs_on true (none_empty (f (h k)).points (this.count ∙ none)) in
       subst (λ (ms : List Manifold). ManifoldsStored ms at xs zs n) (sym (g.1 ∙ append-nil (kept k)))
       (record { words = g.0 ∙ before.words; count = before.count ∙ sym m; few = omega (arith, before.few) })
 
@@ -207,7 +207,7 @@ module _ (t : Float) (a b : sides.Side) (f : surfaces.Surface) (answer : Bool) (
   pub hook_no : {modify : Bool} → modify ≡ true → not h ≡ true → ManifoldsStored (remaining t a b f modify answer proposal) at xs xs 0
   unfolding remaining hooked put
   hook_no {modify} m n =
-      let e : answer ≡ false = sym asked ∙ not_true h n in
+      let e : answer ≡ false = sym asked ∙ not-true h n in
       record { words = rw (m, e); count = rw (m, e); few = omega arith }
 
   module _ {ys : List ℕ} {c : ℕ} (made : ManifoldsStored (without_empty (map (filtered t a b f) proposal)) at xs ys c) where

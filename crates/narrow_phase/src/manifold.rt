@@ -37,7 +37,7 @@ use words::row::{load_word, mark_word, store_words};
 use words::vec::load_vec3;
 
 // The points of a new manifold: the first `count`.
-#[derive(Drop)]
+#[derive(Clone, Copy)]
 pub struct ManifoldPoints {
     pub points: [ContactPoint; STORED_POINTS],
     pub count: u32,

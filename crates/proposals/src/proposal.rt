@@ -17,7 +17,7 @@ use words::row::{load_float, load_word};
 use words::vec::load_vec3;
 
 // What a shape proposes.
-#[derive(Drop)]
+#[derive(Clone, Copy)]
 pub struct ProposedPoint {
     pub anchor1: Vec3,
     pub anchor2: Vec3,

@@ -1,5 +1,3 @@
 pub mod Answer
 pub mod WriteLaws
-pub mod AnswerLaws
-pub mod CallLaws
 pub mod CaseLaws

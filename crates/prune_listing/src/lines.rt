@@ -6,20 +6,20 @@ ghost use Rattle.prune_listing.specs.Answers.{taken_vector, taken_point};
 use crate::words::{line_ends, read_field};
 use text::reader::Word;
 
-#[derive(Drop)]
+#[derive(Clone, Copy)]
 pub struct VectorWords {
     pub x: u32,
     pub y: u32,
     pub z: u32,
 }
 
-#[derive(Drop)]
+#[derive(Clone, Copy)]
 pub enum VectorRead {
     Vector(VectorWords),
     NoVector,
 }
 
-#[derive(Drop)]
+#[derive(Clone, Copy)]
 pub struct PointWords {
     pub x: u32,
     pub y: u32,
@@ -27,7 +27,7 @@ pub struct PointWords {
     pub penetration: u32,
 }
 
-#[derive(Drop)]
+#[derive(Clone, Copy)]
 pub enum PointRead {
     Point(PointWords),
     NoPoint,

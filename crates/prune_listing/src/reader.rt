@@ -11,7 +11,7 @@ use layout::limits::PROPOSED_POINTS;
 use layout::prune::{PRUNE_POINT_SIZE, PRUNE_POINTS_LENGTH};
 
 // The normal's words, and how many points there are.
-#[derive(Drop)]
+#[derive(Clone, Copy)]
 pub struct Header {
     pub x: u32,
     pub y: u32,
@@ -19,13 +19,13 @@ pub struct Header {
     pub count: u32,
 }
 
-#[derive(Drop)]
+#[derive(Clone, Copy)]
 pub enum Reading {
     Read(Header),
     Unreadable,
 }
 
-#[derive(Drop)]
+#[derive(Clone, Copy)]
 pub enum Count {
     Points(u32),
     NoPoints,

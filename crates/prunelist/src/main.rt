@@ -1,13 +1,18 @@
 // Reads a listing of points from standard input, and writes the numbers of those that pruning keeps,
 // or a refusal's: the specification, 'Prune listing'. The files stdin and stdout are its case C1.
-use libc::{STDIN_FILENO, STDOUT_FILENO};
-use prune_answer::answer::answer;
+#![tactic(auto)]
 
-fn main() {
-    // One byte more than is read: a text that fills it is too long.
-    let mut text = [0u8; 65537];
-    let n = io::read_full(STDIN_FILENO, &mut text);
+use prune_answer::answer::answer;
+use std::io;
+use std::io::{Read, Write};
+
+// One byte more than is read: a text that fills it is too long.
+const MOST_READ: u64 = 65537;
+
+fn main(rt: HostRuntime) -> io::Result<()> {
+    let mut text = Vec::new(rt.alloc());
+    rt.stdin().take(MOST_READ).read_to_end(&mut text)?;
     let mut out = [0u8; 24];
-    let m = answer(&text[..n], &mut out);
-    io::write_all(STDOUT_FILENO, &out[..m]);
+    let m = answer(text.as_slice(), &mut out);
+    rt.stdout().write_all(&out[..m])
 }

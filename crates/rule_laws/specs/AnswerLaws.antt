@@ -11,7 +11,7 @@ use Rattle.rules.specs.Records.{Pair, Names}
 use Rattle.rules.specs.Update.{updated}
 use Rattle.rules.specs.Graph.{Graph, empty_graph, plain_add, new_id}
 use Rattle.rules.specs.Status.{Change, start, stop_if, count_of, plain_step, Verdict, vanishes, starts, stops, generates, recounts, persists, verdict, next, changes_for}
-use Rattle.rules.specs.Runs.{Held, holding, manifolds_of, replay_one, replay, Entry, addition, stepping, impulses, Answer, added, stepped, silent, After, unless_refused, plain_call, plain_run, plain_graph, names_both, keeps_generating, ProvisosAt, Provisos}
+use Rattle.rules.specs.Runs.{Held, holding, manifolds_of, replay_one, replay, Entry, addition, stepping, impulses, Answer, added, stepped, After, unless_refused, plain_call, plain_run, plain_graph, names_both, keeps_generating, ProvisosAt, Provisos}
 use Rattle.rule_laws.specs.Replayed.{replay_answer, replay_answers, Room, AnswersReplayHolds}
 use Rattle.rule_laws.specs.LookupLaws.{find, mapped, find_id, find_map}
 use Rattle.rule_laws.specs.VisitLaws.{visit_changes}

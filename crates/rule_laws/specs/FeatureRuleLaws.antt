@@ -1,5 +1,5 @@
 -- By number and by place: what the matching setting changes, and what it does not. Assumes nothing.
-use Rattle.std.specs.Prelude.{ℕ, zero, suc, ◌<◌, ◌≡◌, refl, Bool, true, false, not, ◌&&◌, ◌||◌, length, get_or, Float}
+use Rattle.std.specs.Prelude.{ℕ, ◌<◌, ◌≡◌, refl, Bool, true, false, not, ◌&&◌, ◌||◌, length, get_or, Float}
 use Rattle.std.proofs.Common.{sym, ◌∙◌}
 use Rattle.std.proofs.Math.Path.{ap}
 use mathlib.Core.List.{List, [], ◌∷◌, map}
@@ -7,9 +7,9 @@ use Rattle.std.proofs.Math.Option.{Option, none, some}
 use Rattle.math.specs.Floats.{◌⊗◌}
 use Rattle.rules.specs.Numbers.{first}
 use Rattle.rules.specs.Records.{Point, Manifold}
-use Rattle.rules.specs.Matching.{FeatureRule, unknown, by_number, by_place, feature_rule, anchors_match, matches, source, taking, matched_point, with_points, match_contacts, match_all}
+use Rattle.rules.specs.Matching.{unknown, by_number, by_place, feature_rule, anchors_match, matches, source, taking, matched_point, with_points, match_contacts, match_all}
 use Rattle.rule_laws.specs.NumberLaws.{first_same, first_passes}
-use Rattle.rule_laws.specs.MatchingLaws.{NoneBefore, none_before, matched_none}
+use Rattle.rule_laws.specs.MatchingLaws.{none_before, matched_none}
 
 -- the setting 0 says by number, 1 by place
 pub rule_number : feature_rule false ≡ by_number

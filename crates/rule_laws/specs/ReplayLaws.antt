@@ -1,6 +1,6 @@
 -- The replay claim: after any run, what the replay of its constraint changes holds is what the graph holds. Assumes nothing.
 use Prim.Native.Nat.{ℕ, zero, suc, ◌+◌, ◌-◌, ◌≤◌, ◌<◌}
-use Rattle.std.specs.Prelude.{◌≡◌, refl, ◌≢◌, Bool, not, ◌&&◌, eqb, T, get_or, take, ℤ, pos}
+use Rattle.std.specs.Prelude.{◌≡◌, refl, ◌≢◌, Bool, ◌&&◌, eqb, T, get_or, take, ℤ, pos}
 use Rattle.std.proofs.Math.Path.{sym, ap, subst₂}
 use Rattle.std.proofs.Common.{subst, ◌∙◌, length-take-le}
 use Rattle.std.proofs.Math.Bool.{true, false, cond}

@@ -8,7 +8,7 @@ use Rattle.std.proofs.Math.Option.{Option, none, some}
 use Rattle.std.proofs.Math.IntN.{pos, -ℤ-+ℤ_cancel, +ℤ_comm, +ℤ_idl}
 use Rattle.rules.specs.Records.{Pair, Names}
 use Rattle.rules.specs.Update.{Updated, non_zero}
-use Rattle.rules.specs.Status.{Change, start, count, stop_if, count_of, Verdict, vanishes, starts, stops, generates, recounts, persists, pick, verdict, next, changes_for}
+use Rattle.rules.specs.Status.{Change, start, stop_if, count_of, Verdict, vanishes, starts, stops, generates, recounts, persists, pick, verdict, next, changes_for}
 use Rattle.rules.specs.Runs.{Held, raised_by, manifolds_of, replay_one, replay, named}
 use Rattle.rule_laws.specs.LookupLaws.{mapped}
 use Rattle.rule_laws.specs.VisitLaws.{becoming, visit_changes}

@@ -1,1 +1,2 @@
 // Theorems about the rules of the specification: see specs/. No code.
+#![tactic(auto)]

@@ -1,5 +1,5 @@
 -- Rule 9 of one pair's update: proposed manifolds moved, filtered and pruned. Definitions only.
-use Rattle.std.specs.Prelude.{ℕ, Bool, true, false, cond, ◌||◌, List, [], ◌∷◌, map, ltb, Float, length, get_or}
+use Rattle.std.specs.Prelude.{Bool, true, false, cond, ◌||◌, List, [], ◌∷◌, map, ltb, Float, length, get_or}
 use Rattle.std.specs.Float.Ieee.{lt, neg}
 use Rattle.math.specs.Constants.{zero_f}
 use Rattle.math.specs.Floats.{◌⊕◌, ◌⊖◌, ◌⊗◌}

@@ -1,7 +1,7 @@
 -- The graph as a plain value, and what lay out, add, look up and remove do to it: the specification, 'The door' and 'Status pass'. Definitions only.
-use Rattle.std.specs.Prelude.{ℕ, zero, suc, ◌-◌, Bool, true, false, cond, List, [], ◌∷◌, ◌++◌, eqb, pos, Float, length, get_or, take, set}
+use Rattle.std.specs.Prelude.{ℕ, suc, ◌-◌, Bool, false, cond, List, [], ◌∷◌, ◌++◌, eqb, pos, Float, length, get_or, take, set}
 use Rattle.std.proofs.Math.Option.{Option, none, some}
-use Rattle.rules.specs.Records.{Names, EdgeFlags, PairFlags, Pair}
+use Rattle.rules.specs.Records.{PairFlags, Pair}
 
 -- ids 0 to given - 1 were given; the free ones in the order freed; the pairs in the list's order
 pub record Graph : Type 0 where

@@ -1,5 +1,5 @@
 -- Rules 4 and 5 of one pair's update: whether a pair is recycled, and what becomes of it. Definitions only.
-use Rattle.std.specs.Prelude.{Bool, true, false, cond, not, ◌&&◌, map, Float}
+use Rattle.std.specs.Prelude.{Bool, false, cond, not, ◌&&◌, map, Float}
 use Rattle.std.proofs.Math.Option.{Option, none, some}
 use Rattle.std.specs.Float.Ieee.{le}
 use Rattle.math.specs.Choose.{maximum, minimum}

@@ -45,13 +45,13 @@ point_written warm_start_tangent_impulse_x v p = point_with p p.normal_impulse p
 point_written warm_start_tangent_impulse_y v p = point_with p p.normal_impulse p.warm_start_normal (vec2 p.warm_start_tangent.x v)
 
 -- the element with that number, if there is one, changed
-unfoldable pub changedAt {ℓ} : {A : Type ℓ} → ℕ → (A → A) → List A → List A
-changedAt n f [] = []
-changedAt zero f (x ∷ xs) = f x ∷ xs
-changedAt (suc n) f (x ∷ xs) = x ∷ changedAt n f xs
+unfoldable pub changed_at {ℓ} : {A : Type ℓ} → ℕ → (A → A) → List A → List A
+changed_at n f [] = []
+changed_at zero f (x ∷ xs) = f x ∷ xs
+changed_at (suc n) f (x ∷ xs) = x ∷ changed_at n f xs
 
 abbrev pub manifold_written : Write → Manifold → Manifold
-manifold_written w m = with_points m (changedAt w.point (point_written w.impulse w.value) m.points)
+manifold_written w m = with_points m (changed_at w.point (point_written w.impulse w.value) m.points)
 
 abbrev pub with_manifolds : Pair → List Manifold → Pair
 with_manifolds p ms =
@@ -67,7 +67,7 @@ with_manifolds p ms =
 
 -- only the pair with that id changes
 unfoldable pub pair_written : Write → Pair → Pair
-pair_written w p = cond (eqb p.names.id w.contact) (with_manifolds p (changedAt w.manifold (manifold_written w) p.manifolds)) p
+pair_written w p = cond (eqb p.names.id w.contact) (with_manifolds p (changed_at w.manifold (manifold_written w) p.manifolds)) p
 
 abbrev pub with_pairs : Graph → List Pair → Graph
 with_pairs g ps = record { capacity = g.capacity; given = g.given; free = g.free; pairs = ps }

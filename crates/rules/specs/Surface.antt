@@ -1,5 +1,5 @@
 -- Rules 7 and 8 of one pair's update: friction, restitution, margins, and the distance without them. Definitions only.
-use Rattle.std.specs.Prelude.{ℕ, Bool, cond, ◌||◌, eqb, ltb, Float}
+use Rattle.std.specs.Prelude.{ℕ, cond, ◌||◌, eqb, ltb, Float}
 use Rattle.std.proofs.Math.Option.{Option, none, some}
 use Rattle.std.specs.Float.Ieee.{lt, ne}
 use Rattle.math.specs.Choose.{maximum, minimum}
@@ -17,9 +17,9 @@ or_else none d = d
 or_else (some a) d = a
 
 -- the first that is given
-abbrev pub firstGiven {ℓ} : {A : Type ℓ} → Option A → Option A → Option A
-firstGiven none o = o
-firstGiven (some a) o = some a
+abbrev pub first_given {ℓ} : {A : Type ℓ} → Option A → Option A → Option A
+first_given none o = o
+first_given (some a) o = some a
 
 -- ---- rule 7
 -- 1 (a + b) × 0.5, 2 root of a × b, 3 minimum, 4 product, 5 maximum
@@ -33,7 +33,7 @@ combine a b = ruled (cond (ltb a.rule b.rule) b.rule a.rule) a.value b.value
 
 -- collider's, else body's, else default
 unfoldable pub friction_of : Settings → Collider → Side → Coefficient
-friction_of s c a = or_else (firstGiven c.friction a.friction) s.default_friction
+friction_of s c a = or_else (first_given c.friction a.friction) s.default_friction
 
 -- collider's, else default: never the body's
 unfoldable pub restitution_of : Settings → Collider → Coefficient
@@ -41,7 +41,7 @@ restitution_of s c = or_else c.restitution s.default_restitution
 
 -- collider's, else body's, else 0
 unfoldable pub margin_of : Collider → Side → Float
-margin_of c a = or_else (firstGiven c.margin a.margin) zero_f
+margin_of c a = or_else (first_given c.margin a.margin) zero_f
 
 -- ---- rule 8
 -- each velocity whose maximum is below f32's largest is clamped to maximum × (1 / step time)

@@ -2,6 +2,8 @@
 // of steps; listed pairs; those that touch; events, changes and contacts recycled since the last line; hashes of what the graph
 // records, of the events and of the changes since the last line. The file stdout holds what avian's Rust gives for the same stack:
 // cd tests/reference && cargo run --release --offline --bin settling_stack > ../../crates/settling_stack/stdout
+#![tactic(auto)]
+
 mod additions;
 mod boxes;
 mod dealt;
@@ -12,6 +14,11 @@ mod play;
 mod proposed;
 mod recorded;
 
-fn main() {
-    play::print_stack();
+use std::io;
+use std::io::{BufWriter, Write};
+
+fn main(rt: HostRuntime) -> io::Result<()> {
+    let mut out = BufWriter::new(rt.alloc(), rt.stdout())?;
+    play::print_stack(&mut out)?;
+    out.flush()
 }

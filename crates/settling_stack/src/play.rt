@@ -18,6 +18,8 @@ use case_draws::places::{put, word};
 use contact_graph::lay_out::{LayOutAnswer, lay_out};
 use layout::body::BODIES_LENGTH;
 use layout::collider::COLLIDERS_LENGTH;
+use std::io;
+use std::io::Write;
 use step::answer::{StepAnswer, StepReport};
 use step::step::step;
 
@@ -102,73 +104,81 @@ fn play_step(
     refused
 }
 
-fn print_tally(graph: &[u32], tally: &[u32], steps: u32) {
-    print_number(steps);
-    print_count(word(graph, GRAPH_LISTED));
-    print_count(touching_pairs(graph));
-    print_count(word(tally, 0));
-    print_count(word(tally, 1));
-    print_count(word(tally, 2));
-    print_word(graph_hash(graph));
-    print_word(word(tally, 3));
-    print_word(word(tally, 4));
-    print_end();
+fn print_tally<W: Write>(out: &mut W, graph: &[u32], tally: &[u32], steps: u32) -> io::Result<()> {
+    print_number(out, steps)?;
+    print_count(out, word(graph, GRAPH_LISTED))?;
+    print_count(out, touching_pairs(graph))?;
+    print_count(out, word(tally, 0))?;
+    print_count(out, word(tally, 1))?;
+    print_count(out, word(tally, 2))?;
+    print_word(out, graph_hash(graph))?;
+    print_word(out, word(tally, 3))?;
+    print_word(out, word(tally, 4))?;
+    print_end(out)
 }
 
 // Every ten steps.
-fn print_line(graph: &[u32], tally: &mut [u32], steps: u32) {
+fn print_line<W: Write>(
+    out: &mut W,
+    graph: &[u32],
+    tally: &mut [u32],
+    steps: u32,
+) -> io::Result<()> {
     if steps % 10 == 0 {
-        print_tally(graph, tally, steps);
+        print_tally(out, graph, tally, steps)?;
         clear(tally);
     }
+    Ok(())
 }
 
-fn print_refused(number: u32) {
-    print_name(b"refused");
-    print_count(number);
-    print_end();
+fn print_refused<W: Write>(out: &mut W, number: u32) -> io::Result<()> {
+    print_name(out, b"refused")?;
+    print_count(out, number)?;
+    print_end(out)
 }
 
-fn play(
+fn play<W: Write>(
+    out: &mut W,
     colliders: &mut [u32],
     bodies: &mut [u32],
     proposals: &mut [u32],
     graph: &mut [u32],
     tally: &mut [u32],
-) {
+) -> io::Result<()> {
     let mut step = 0;
     while step < 300 {
         let refused = play_step(colliders, bodies, proposals, graph, tally, step);
         if refused != 0 {
-            print_refused(refused);
-            return;
+            return print_refused(out, refused);
         }
         step += 1;
-        print_line(graph, tally, step);
+        print_line(out, graph, tally, step)?;
     }
+    Ok(())
 }
 
-fn start(graph: &mut [u32]) {
+fn start<W: Write>(out: &mut W, graph: &mut [u32]) -> io::Result<()> {
     match lay_out(graph, CAPACITY) {
-        LayOutAnswer::Done => {}
-        LayOutAnswer::Refused(refusal) => print_refused(refusal.number()),
+        LayOutAnswer::Done => Ok(()),
+        LayOutAnswer::Refused(refusal) => print_refused(out, refusal.number()),
     }
 }
 
-pub fn print_stack() {
+pub fn print_stack<W: Write>(out: &mut W) -> io::Result<()> {
     let mut colliders = [0u32; COLLIDERS_LENGTH];
     let mut bodies = [0u32; BODIES_LENGTH];
     let mut proposals = [0u32; PROPOSALS_LENGTH];
     let mut graph = [0u32; GRAPH_LENGTH];
     let mut tally = [0u32; 5];
-    start(&mut graph);
+    start(out, &mut graph)?;
     fill_bodies(&mut bodies);
     clear(&mut tally);
     play(
+        out,
         &mut colliders,
         &mut bodies,
         &mut proposals,
         &mut graph,
         &mut tally,
-    );
+    )
 }

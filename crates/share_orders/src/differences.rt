@@ -3,9 +3,11 @@ use crate::places::{ANSWER, CHANGES, DISTANCES, EVENTS, LENGTH};
 use crate::run::run;
 use case_draws::line::{print_count, print_name};
 use case_draws::places::word;
+use std::io;
+use std::io::Write;
 
 // The first word that differs from the first run's: the step, the share, the place in the row.
-#[derive(Drop)]
+#[derive(Clone, Copy)]
 pub struct Difference {
     pub found: bool,
     pub step: u32,
@@ -76,34 +78,34 @@ pub fn run_all(
     difference
 }
 
-fn print_place(name: &[u8], place: u32) {
-    print_name(name);
-    print_count(place);
+fn print_place<W: Write>(out: &mut W, name: &[u8], place: u32) -> io::Result<()> {
+    print_name(out, name)?;
+    print_count(out, place)
 }
 
 // The buffer and the place in it.
-fn print_word_place(place: u32) {
+fn print_word_place<W: Write>(out: &mut W, place: u32) -> io::Result<()> {
     if place < EVENTS {
-        print_place(b"\tgraph", place);
+        print_place(out, b"\tgraph", place)
     } else if place < CHANGES {
-        print_place(b"\tevents", place - EVENTS);
+        print_place(out, b"\tevents", place - EVENTS)
     } else if place < DISTANCES {
-        print_place(b"\tchanges", place - CHANGES);
+        print_place(out, b"\tchanges", place - CHANGES)
     } else if place < ANSWER {
-        print_place(b"\tdistances", place - DISTANCES);
+        print_place(out, b"\tdistances", place - DISTANCES)
     } else {
-        print_place(b"\tanswer", place - ANSWER);
+        print_place(out, b"\tanswer", place - ANSWER)
     }
 }
 
-pub fn print_difference(d: Difference) {
+pub fn print_difference<W: Write>(out: &mut W, d: Difference) -> io::Result<()> {
     if d.found {
-        print_name(b"\tDIFFERENT\tstep");
-        print_count(d.step);
-        print_name(b"\tshare");
-        print_count(d.share);
-        print_word_place(d.place);
+        print_name(out, b"\tDIFFERENT\tstep")?;
+        print_count(out, d.step)?;
+        print_name(out, b"\tshare")?;
+        print_count(out, d.share)?;
+        print_word_place(out, d.place)
     } else {
-        print_name(b"\tsame");
+        print_name(out, b"\tsame")
     }
 }

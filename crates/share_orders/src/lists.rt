@@ -12,6 +12,8 @@ use case_draws::numbers::{GRAPH_LISTED, SETTINGS_LENGTH};
 use case_draws::places::word;
 use layout::body::BODIES_LENGTH;
 use layout::collider::COLLIDERS_LENGTH;
+use std::io;
+use std::io::Write;
 
 // Steps accepted, contacts updated, events, changes, contacts recycled, of a step that began with so many contacts.
 fn count_step(counts: &mut [u32], row: &[u32], listed: u32) {
@@ -107,38 +109,40 @@ fn count_same(totals: &mut [u32], difference: Difference) {
     }
 }
 
-fn print_list(totals: &mut [u32], list: u32) {
+fn print_list<W: Write>(out: &mut W, totals: &mut [u32], list: u32) -> io::Result<()> {
     let mut counts = [0u32; 5];
     let difference = play_list(&mut counts, draw(list, 0));
-    print_number(list);
-    print_count(word(&counts, 0));
-    print_count(word(&counts, 1));
-    print_difference(difference);
-    print_end();
+    print_number(out, list)?;
+    print_count(out, word(&counts, 0))?;
+    print_count(out, word(&counts, 1))?;
+    print_difference(out, difference)?;
+    print_end(out)?;
     raise_each(totals, 0, &counts, 0, 5);
     count_same(totals, difference);
+    Ok(())
 }
 
-fn print_totals(totals: &[u32]) {
-    print_name(b"total\t40");
+fn print_totals<W: Write>(out: &mut W, totals: &[u32]) -> io::Result<()> {
+    print_name(out, b"total\t40")?;
     let mut k = 0;
     while k < 6 {
-        print_count(word(totals, k));
+        print_count(out, word(totals, k))?;
         k += 1;
     }
-    print_end();
+    print_end(out)
 }
 
-fn print_each(totals: &mut [u32]) {
+fn print_each<W: Write>(out: &mut W, totals: &mut [u32]) -> io::Result<()> {
     let mut list = 0;
     while list < 40 {
-        print_list(totals, list);
+        print_list(out, totals, list)?;
         list += 1;
     }
+    Ok(())
 }
 
-pub fn print_lists() {
+pub fn print_lists<W: Write>(out: &mut W) -> io::Result<()> {
     let mut totals = [0u32; 6];
-    print_each(&mut totals);
-    print_totals(&totals);
+    print_each(out, &mut totals)?;
+    print_totals(out, &totals)
 }

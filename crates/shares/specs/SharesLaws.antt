@@ -5,8 +5,8 @@ use native.Mathlib.Omega.{arith}
 use Rattle.std.specs.Prelude.{◌≡◌, Bool, ◌&&◌, List, ltb}
 use Rattle.std.proofs.Math.Path.{refl, sym, ap}
 use Rattle.std.proofs.Math.Logic.{inl, inr}
-use Rattle.std.proofs.Math.Bool.{true, false, cond, not, and_false, and_assoc}
-use borrow.Author.Tests.{eq-eqb, ne_eqb, eqb-true, eqb-false, lt-ltb, le-ltb, le-leb, lt-leb, not_true, not-false}
+use Rattle.std.proofs.Math.Bool.{true, false, cond, not, and-false, and_assoc}
+use borrow.Author.Tests.{eq-eqb, ne_eqb, eqb-true, eqb-false, lt-ltb, le-ltb, le-leb, lt-leb, not-true, not-false}
 use Rattle.std.proofs.Math.Dec.{eqb, leb}
 use Rattle.rules.specs.Numbers.{every}
 use Rattle.rule_laws.specs.NumberLaws.{every_at, every_all}
@@ -119,7 +119,7 @@ module _ (xs g : List ℕ) (c : Checked g) (st : entries_stand xs g ≡ true) wh
   unfolding entries_once
   all_apart o j k b d z =
       let t = every_at (λ i. not (eqb (e i) (e k))) k j (every_at (λ i. every (λ h. not (eqb (e h) (e i))) i) n k o d) b in
-      eqb-false (e j) (e k) (not_true (eqb (e j) (e k)) t) z
+      eqb-false (e j) (e k) (not-true (eqb (e j) (e k)) t) z
 
   pub active_linear : active_once xs g ≡ entries_once xs && eqb n m
   active_linear =
@@ -152,19 +152,19 @@ module _ (xs g : List ℕ) where
 
   pub many_workers : {w : ℕ} → w ≡ workers_of xs → 8 < w → false ≡ shares_fit xs g
   unfolding counts_fit
-  many_workers e l = counts_unfit (let f = lt-leb (workers_of xs) 8 (omega arith) in rw (f, and_false (ltb 0 (workers_of xs))))
+  many_workers e l = counts_unfit (let f = lt-leb (workers_of xs) 8 (omega arith) in rw (f, and-false (ltb 0 (workers_of xs))))
 
   pub many_entries : {w t n : ℕ} → w ≡ workers_of xs → t ≡ start_of xs w → n ≡ capacity_of g → n < t → false ≡ shares_fit xs g
   unfolding counts_fit
   many_entries {w} {t} e s c l =
       let same : t ≡ total_of xs = s ∙ ap (start_of xs) e in
       let f = lt-leb (total_of xs) (capacity_of g) (omega arith) in
-      counts_unfit (rw (f, and_false (ltb 0 (workers_of xs) && leb (workers_of xs) 8)))
+      counts_unfit (rw (f, and-false (ltb 0 (workers_of xs) && leb (workers_of xs) 8)))
 
   pub entries_unfit : Checked g → {r : Bool} → r ≡ entries_stand xs g && entries_once xs → not r ≡ true → false ≡ shares_fit xs g
   entries_unfit c {r} e n =
-      let f : entries_stand xs g && entries_once xs ≡ false = sym e ∙ not_true r n in
-      sym (in_turn c ∙ ap (λ (b : Bool). counts_fit xs g && (b && eqb (total_of xs) (listed_count g))) f ∙ and_false (counts_fit xs g))
+      let f : entries_stand xs g && entries_once xs ≡ false = sym e ∙ not-true r n in
+      sym (in_turn c ∙ ap (λ (b : Bool). counts_fit xs g && (b && eqb (total_of xs) (listed_count g))) f ∙ and-false (counts_fit xs g))
 
   pub number_unfit : Checked g → {w t n m : ℕ} {r : Bool} → w ≡ workers_of xs → (w ≡ 0 → ⊥) → w ≤ 8 → t ≡ start_of xs w → n ≡ capacity_of g → t ≤ n
       → r ≡ entries_stand xs g && entries_once xs → not r ≡ false → m ≡ listed_count g → eqb t m ≡ shares_fit xs g

@@ -2,20 +2,20 @@
 use Rattle.std.specs.Prelude.{ℕ, ◌+◌, ◌*◌, ◌^◌, ◌<◌, ◌≡◌, Bool, true, false, cond, ◌&&◌, List, [], ◌∷◌, ◌++◌, eqb, ℤ}
 use Rattle.std.proofs.Common.{add-zero, ◌∙◌, append-nil, eq-eqb, ne_eqb}
 use Rattle.std.proofs.Math.Path.{refl, sym, ap}
-use Rattle.std.proofs.Math.Option.{Option, none, some}
+use Rattle.std.proofs.Math.Option.{none, some}
 use Rattle.rows.specs.Rows.{put}
 use Rattle.rules.specs.Records.{Names}
 use Rattle.rules.specs.Status.{Event, started, ended, event_if, Change, start, stop, count, stop_if, count_of, changes_for, events_for}
 use Rattle.rule_laws.specs.PassingLaws.{naming}
 use Rattle.words.specs.Words.{word_at, mark_word}
-use Rattle.contact_records.specs.IntLaws.{word_back}
+use Rattle.contact_records.proofs.IntLaws.{word_back}
 use Rattle.contact_records.specs.Recorded.{mark_at, int_of, flags_at, edge_at, names_at, pair_at}
 use Rattle.contact_records.specs.Written.{optional_words, int_word}
 use Rattle.status_pass.specs.EventsAndChanges.{named_words, event_words, change_words}
 use Rattle.status_pass.specs.Verdicts.{plain_verdict}
 use Rattle.status_pass.specs.Listed.{event_where, events_by, change_where, changes_by, body1_at, body2_at, EventIs, ChangeIs, EventsWritten, ChangesWritten}
 use Rattle.status_pass.specs.declared.verdict.Verdict.{Verdict}
-use Rattle.status_pass.specs.declared.verdict.Verdict.TheVariants.{Vanishes, Starts, Stops, Generates, Recounts, Persists}
+use Rattle.status_pass.specs.declared.verdict.Verdict.TheVariants.{Vanishes, Starts, Stops, Generates, Recounts}
 use Rattle.status_pass.specs.declared.events.EventKind.{EventKind}
 use Rattle.status_pass.specs.declared.events.EventKind.TheVariants as event
 use Rattle.status_pass.specs.declared.changes.ContactStatusChange.{ContactStatusChange}

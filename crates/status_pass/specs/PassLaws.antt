@@ -235,8 +235,8 @@ visited_others v {g} id c st j d =
     visited_by (λ (h : List ℕ). range.stands h j ≡ range.stands g j) id g (removed_others id c st j d) (λ u. stands_kept u id c st j) v
 
 -- ---- a visit does to the plain graph what the rules do
-set-upto {ℓ} : {A : Type ℓ} (f h : ℕ → A) (n p : ℕ) (q : A) → p < n → h p ≡ q → ((k : ℕ) → k < n → k ≢ p → h k ≡ f k) → map h (upto n) ≡ set (map f (upto n)) p q
-set-upto f h n p q l e rest =
+set_upto {ℓ} : {A : Type ℓ} (f h : ℕ → A) (n p : ℕ) (q : A) → p < n → h p ≡ q → ((k : ℕ) → k < n → k ≢ p → h k ≡ f k) → map h (upto n) ≡ set (map f (upto n)) p q
+set_upto f h n p q l e rest =
     let fs = map f (upto n) in
     ext_get_or q (map h (upto n)) (set fs p q) (length_map_upto h n ∙ sym (length-set fs p q ∙ length_map_upto f n))
     (λ k b. let s : k < n = omega (arith, length_map_upto h n) in get_d_map_upto h n k q s ∙ at k s)
@@ -294,7 +294,7 @@ module _ {g : List ℕ} (id : ℕ) (c : Checked g) (st : range.stands g id ≡ t
     settled_pairs =
         let h = settled_graph v id g in
         ap (λ (n : ℕ). map (listed_pair h) (upto n)) (listed_kept v id c st)
-        ∙ set-upto (listed_pair g) (listed_pair h) (listed_count g) (place_of g id) q (here id c st) place_pair other_pair
+        ∙ set_upto (listed_pair g) (listed_pair h) (listed_count g) (place_of g id) q (here id c st) place_pair other_pair
 
     settled_free : map (free_at (settled_graph v id g)) (upto (free_count (settled_graph v id g))) ≡ map (free_at g) (upto (free_count g))
     settled_free =

@@ -2,7 +2,7 @@
 use Rattle.std.specs.Prelude.{ℕ, ◌+◌, ◌*◌, ◌≤◌, ◌<◌, ◌≡◌, true, get_or, drop}
 use Rattle.std.proofs.Common.{zero-add, zero-mul, add_assoc, arith, subst₂, ◌∙◌, length-append, length-take-le, get_or-take, take_all}
 use Rattle.std.proofs.Math.Path.{refl, sym, ap, subst}
-use mathlib.Core.List.{List, [], ◌∷◌, ◌++◌}
+use mathlib.Core.List.{List, ◌++◌}
 use Rattle.std.proofs.Math.Option.{Option, none, some}
 use Rattle.std.proofs.Math.ListN.{length, take}
 use Rattle.rows.specs.Rows.{part, put, each}
@@ -18,7 +18,7 @@ use Rattle.contact_records.specs.Written.{optional_words}
 use Rattle.contact_range.specs.Checked.{Checked}
 use Rattle.contact_range.specs.Range.{stands}
 use Rattle.contact_range.specs.RangeLaws.{standing_fits, standing_below}
-use Rattle.contact_range.specs.Recorded.{capacity_of, contact_at}
+use Rattle.contact_range.specs.Recorded.{contact_at}
 use Rattle.contact_graph.specs.EffectLaws.{contact_room}
 use Rattle.status_pass.specs.EventsAndChanges.{event_words, change_words}
 use Rattle.status_pass.specs.Settled.{settled_words}

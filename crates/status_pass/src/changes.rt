@@ -17,7 +17,7 @@ use layout::contact::{
 use words::row::{load_word, store_words};
 
 // As in avian's system_param.rs, without what each carries; or nothing.
-#[derive(Drop)]
+#[derive(Clone, Copy)]
 pub enum ContactStatusChange {
     Nothing,
     StartedGeneratingConstraints,

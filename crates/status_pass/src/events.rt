@@ -18,7 +18,7 @@ use layout::contact::{
 use layout::event::EVENT_SIZE;
 use words::row::{load_word, store_words};
 
-#[derive(Drop)]
+#[derive(Clone, Copy)]
 pub enum EventKind {
     Nothing,
     Started,

@@ -7,7 +7,7 @@ use contact_records::state::load_flags;
 use layout::contact::{CONTACT_COUNT_CHANGE, CONTACT_FLAGS};
 use words::row::load_word;
 
-#[derive(Drop)]
+#[derive(Clone, Copy)]
 pub enum Verdict {
     // Disjoint: the contact is removed.
     Vanishes,

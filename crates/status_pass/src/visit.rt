@@ -15,7 +15,7 @@ use contact_types::contact_id::ContactId;
 use layout::contact::CONTACT_SIZE;
 
 // How many events and changes are written.
-#[derive(Drop)]
+#[derive(Clone, Copy)]
 pub struct WrittenCounts {
     pub events: usize,
     pub changes: usize,

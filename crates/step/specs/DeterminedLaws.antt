@@ -8,7 +8,7 @@ use Rattle.std.proofs.Math.ListN.{length}
 use Rattle.contact_types.specs.RefusalLaws.{same_by, refusal_for, refusal_for_lem, Numbered, answered_by}
 use Rattle.contact_types.specs.declared.refusal.Refusal.TheVariants.{WrongLength, OutOfRange, ProposalTooLarge, InvalidShares}
 use Rattle.shares.specs.Shares.{shares_fit}
-use Rattle.update_pass.specs.Shared.{active_of, recycledOf}
+use Rattle.update_pass.specs.Shared.{active_of, recycled_of}
 use Rattle.step.specs.Step.{Given, Rows, lengths_fit, numbers_fit, proposals_fit, step_refusal, made_of, pass_of, rows_of, Answer, refused, stepped, plain_answer, answer_of, Stepped}
 use Rattle.step.specs.declared.answer.StepAnswer.{StepAnswer}
 use Rattle.step.specs.declared.answer.StepAnswer.TheVariants as answer
@@ -41,6 +41,6 @@ module _ (x : Given) (g : List ℕ) (l : Rows) where
   step_answered =
       let events = length (pass_of x g).events in
       let changes = length (pass_of x g).changes in
-      let recycled = recycledOf (made_of x g) (active_of g) in
+      let recycled = recycled_of (made_of x g) (active_of g) in
       let a = answered_by plain_answer refused (answer.Done (record { events = events; changes = changes; recycled = recycled })) answer.Refused (answer_of x g) refl (λ r. refl) (step_refusal x g l) step_numbered in
       (a.0, record { answer = a.1; graph = refl; rows = refl })

@@ -1,5 +1,5 @@
 -- The step: when it is refused, what it answers, and every word of the rows that it is lent. Definitions only.
-use Rattle.std.specs.Prelude.{ℕ, ◌+◌, ◌*◌, ◌≡◌, Bool, cond, not, ◌&&◌, List, eqb, length}
+use Rattle.std.specs.Prelude.{ℕ, ◌*◌, ◌≡◌, Bool, cond, not, ◌&&◌, List, eqb, length}
 use Rattle.rows.specs.Rows.{put, each}
 use Rattle.rules.specs.Inputs.{Inputs}
 use Rattle.rules.specs.Numbers.{every}
@@ -21,11 +21,11 @@ use Rattle.contact_range.specs.Recorded.{capacity_of, listed_count, listed_at}
 use Rattle.proposals.specs.Range.{hook_fits, proposal_fits}
 use Rattle.contact_update.specs.After.{inputs_of}
 use Rattle.contact_update.specs.Contact.{update_of}
-use Rattle.contact_update.specs.OrderLaws.{graphAfterAll}
+use Rattle.contact_update.specs.OrderLaws.{graph_after_all}
 use Rattle.shares.specs.Shares.{shares_fit}
 use Rattle.status_pass.specs.Pass.{Passing, begun, pass_words}
 use Rattle.status_pass.specs.EventsAndChanges.{event_words, change_words}
-use Rattle.update_pass.specs.Shared.{active_of, recycledOf, parts_of, standingIds, distancesOf, bits_length}
+use Rattle.update_pass.specs.Shared.{active_of, recycled_of, parts_of, standing_ids, distances_of, bits_length}
 use Rattle.step.specs.declared.answer.StepReport.{StepReport}
 use Rattle.step.specs.declared.answer.StepAnswer.{StepAnswer}
 use Rattle.step.specs.declared.answer.StepAnswer.TheVariants as answer
@@ -98,11 +98,11 @@ made_of x g id = update_of (settings_of x.settings) x.colliders x.bodies x.propo
 
 -- the graph with each active contact updated
 abbrev pub updated_graph : Given → List ℕ → List ℕ
-updated_graph x g = graphAfterAll (settings_of x.settings) x.colliders x.bodies x.proposals g (active_of g)
+updated_graph x g = graph_after_all (settings_of x.settings) x.colliders x.bodies x.proposals g (active_of g)
 
 -- the status pass over the contacts whose bit stands, ascending
 unfoldable pub pass_of : Given → List ℕ → Passing
-pass_of x g = pass_words (begun (updated_graph x g)) (standingIds (made_of x g) g)
+pass_of x g = pass_words (begun (updated_graph x g)) (standing_ids (made_of x g) g)
 
 -- the other rows: events and changes from the start of their rows on, the rest of those as it was
 unfoldable pub rows_of : Given → List ℕ → Rows → Rows
@@ -111,7 +111,7 @@ rows_of x g l =
       bits = parts_of (made_of x g) (blocks_of (capacity_of g)) x.shares most_workers;
       events = put l.events 0 (each event_words (pass_of x g).events);
       changes = put l.changes 0 (each change_words (pass_of x g).changes);
-      distances = distancesOf (made_of x g) g;
+      distances = distances_of (made_of x g) g;
     }
 
 -- ---- the answer: a refusal's number, or how many events and changes are written and how many contacts were recycled
@@ -124,7 +124,7 @@ plain_answer (answer.Done r) = stepped r.events r.changes r.recycled
 plain_answer (answer.Refused r) = refused (number_of r)
 
 unfoldable pub answer_of : Given → List ℕ → Answer
-answer_of x g = stepped (length (pass_of x g).events) (length (pass_of x g).changes) (recycledOf (made_of x g) (active_of g))
+answer_of x g = stepped (length (pass_of x g).events) (length (pass_of x g).changes) (recycled_of (made_of x g) (active_of g))
 
 -- an accepted step
 pub record StepDone (x : Given) (g : List ℕ) (l : Rows) (g' : List ℕ) (l' : Rows) (r : StepReport) : Type 0 where

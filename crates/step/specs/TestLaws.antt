@@ -1,12 +1,9 @@
 -- The tests of a step in their turn. Assumes nothing.
-use Rattle.std.specs.Prelude.{ℕ, ◌+◌, ◌*◌, ◌≤◌, ◌<◌, ◌≡◌, refl, Bool, true, false, ◌&&◌, List, length}
-use Rattle.std.proofs.Common.{arith, sym, ap, ◌∙◌}
-use Rattle.contact_graph.specs.CallLaws.{checked}
+use Rattle.std.specs.Prelude.{ℕ, ◌+◌, ◌*◌, ◌≤◌, ◌<◌, ◌≡◌, Bool, true, false, ◌&&◌, List, length}
+use Rattle.std.proofs.Common.{arith}
 use Rattle.contact_range.specs.Checked.{Checked}
-use Rattle.contact_range.specs.Range.{right_length}
-use Rattle.contact_range.specs.RangeLaws.{right_length_lem, counts, listed_below}
+use Rattle.contact_range.specs.RangeLaws.{counts, listed_below}
 use Rattle.contact_range.specs.Recorded.{capacity_of, listed_count, listed_at}
-use Rattle.contact_range.specs.Conditions.{RightLength}
 use Rattle.layout.specs.Proposal.{proposal_size}
 
 -- the first test fails, or holds and the rest decides

@@ -53,7 +53,7 @@ pub fn call_key(list: u32, n: u32) -> u32 {
     choice(list, slot(1000, n))
 }
 
-#[derive(Drop)]
+#[derive(Clone, Copy)]
 pub enum Kind {
     Addition,
     Step,

@@ -8,6 +8,8 @@ use crate::given::{GIVEN_LENGTH, GRAPH_LENGTH};
 use crate::row_draws::fill_rows;
 use case_draws::numbers::{GRAPH_CONTACT_SIZE, GRAPH_LIST};
 use contact_graph::lay_out::{clear, lay_out};
+use std::io;
+use std::io::Write;
 
 const LISTS: u32 = 120;
 
@@ -30,9 +32,14 @@ fn start_list(given: &mut [u32], graph: &mut [u32], list: List) {
     fill_rows(given, list.colliders, list.key);
 }
 
-fn print_whole(given: &mut [u32], graph: &mut [u32], list: List) {
+fn print_whole<W: Write>(
+    out: &mut W,
+    given: &mut [u32],
+    graph: &mut [u32],
+    list: List,
+) -> io::Result<()> {
     start_list(given, graph, list);
-    print_calls(given, graph, list);
+    print_calls(out, given, graph, list)
 }
 
 const GRAPH_HEAD: usize = GRAPH_LIST as usize;
@@ -40,28 +47,29 @@ const GRAPH_HEAD: usize = GRAPH_LIST as usize;
 const CONTACT_WORDS: usize = GRAPH_CONTACT_SIZE as usize;
 
 // Of the graph's row, what the list's capacity asks for is lent on.
-fn print_list(given: &mut [u32], graph: &mut [u32], l: u32)
+fn print_list<W: Write>(out: &mut W, given: &mut [u32], graph: &mut [u32], l: u32) -> io::Result<()>
     requires { length graph.old ≡ graph_length 64 }
 {
     let list = list_of(l);
     let capacity = list.capacity as usize;
     let recorded = GRAPH_HEAD + CONTACT_WORDS * capacity;
-    print_whole(given, &mut graph[..recorded], list);
+    print_whole(out, given, &mut graph[..recorded], list)
 }
 
-fn print_each(given: &mut [u32], graph: &mut [u32])
+fn print_each<W: Write>(out: &mut W, given: &mut [u32], graph: &mut [u32]) -> io::Result<()>
     requires { length graph.old ≡ graph_length 64 }
 {
     let mut l = 0;
     while l < LISTS {
-        print_list(given, graph, l);
+        print_list(out, given, graph, l)?;
         l += 1;
     }
+    Ok(())
 }
 
 // Rows for the largest capacity.
-pub fn print_lists() {
+pub fn print_lists<W: Write>(out: &mut W) -> io::Result<()> {
     let mut given = [0u32; GIVEN_LENGTH];
     let mut graph = [0u32; GRAPH_LENGTH];
-    print_each(&mut given, &mut graph);
+    print_each(out, &mut given, &mut graph)
 }

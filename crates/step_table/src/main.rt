@@ -1,5 +1,7 @@
 // Prints what lists of additions, steps and impulses give, each list on one contact graph, a line for each call. The file stdout
 // holds what avian's Rust gives for the same lists (tests/reference, step_table).
+#![tactic(auto)]
+
 mod bodies;
 mod calls;
 mod choices;
@@ -12,6 +14,11 @@ mod request;
 mod row_draws;
 mod share_draws;
 
-fn main() {
-    lists::print_lists();
+use std::io;
+use std::io::{BufWriter, Write};
+
+fn main(rt: HostRuntime) -> io::Result<()> {
+    let mut out = BufWriter::new(rt.alloc(), rt.stdout())?;
+    lists::print_lists(&mut out)?;
+    out.flush()
 }

@@ -5,6 +5,4 @@ pub mod SpelledLaws
 pub mod WrittenLaws
 pub mod Answers
 pub mod TextLaws
-pub mod WordLaws
 pub mod NumberLaws
-pub mod BoundLaws

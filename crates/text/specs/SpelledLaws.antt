@@ -1,6 +1,6 @@
 -- A number's digits, spelled from the last to the first into a row of ten. Assumes nothing.
-use Rattle.std.specs.Prelude.{◌≡◌, refl, ℕ, zero, suc, ◌+◌, ◌-◌, ◌*◌, ◌/◌, ◌%◌, ◌^◌, ◌≤◌, ◌<◌, Bool, true, false, cond, List, [], ◌∷◌, ltb, length, get_or, drop, take, set}
-use Rattle.std.proofs.Common.{sym, ap, subst, ◌∙◌, pow-suc, add-one, arith, ltb-true, ltb-false, lt-ltb, le-ltb, length-set, length-drop, drop_of_length-le, drop-cons, get_or-set_same, drop-set-lt, take_all}
+use Rattle.std.specs.Prelude.{◌≡◌, refl, ℕ, zero, suc, ◌+◌, ◌-◌, ◌*◌, ◌/◌, ◌%◌, ◌^◌, ◌≤◌, ◌<◌, Bool, true, false, cond, List, [], ◌∷◌, ltb, length, drop, take, set}
+use Rattle.std.proofs.Common.{sym, ap, subst, ◌∙◌, pow-suc, arith, lt-ltb, le-ltb, length-set, length-drop, drop_of_length-le, drop-cons, get_or-set_same, drop-set-lt, take_all}
 use Rattle.text.specs.Text.{digits_before, decimal_text, Written}
 use Rattle.text.specs.Spelled.{Spelled}
 

@@ -2,7 +2,7 @@
 ghost use Rattle.std.specs.Prelude.{◌≡◌, ◌<◌};
 ghost use Rattle.text.specs.Answers.{HexDigitRead, WordRead, DigitRead, NextValue, ended_at, NumberRead};
 
-#[derive(Drop)]
+#[derive(Clone, Copy)]
 pub enum Word {
     Is(u32),
     NoWord,
@@ -45,7 +45,7 @@ pub fn read_word(text: &[u8], at: usize) -> Word
 }
 
 // A number's value and the place after its last digit.
-#[derive(Drop)]
+#[derive(Clone, Copy)]
 pub enum Number {
     Value(u32, usize),
     NoNumber,

@@ -4,7 +4,7 @@ use Rattle.std.proofs.Common.{subst, not-suc-le-zero, le_of_suc-le-suc, arith}
 use Rattle.std.proofs.Math.Option.{Option, none, some}
 use Rattle.rows.specs.Slots.{AllBelow}
 use Rattle.text.specs.Text.{Taken, after, expect, line_feed, word, decimal}
-use Rattle.text.specs.BoundLaws.{Under, under_expect, word_under, decimal_under}
+use Rattle.text.proofs.BoundLaws.{Under, under_expect, word_under, decimal_under}
 use Rattle.trace_rules.specs.Fields.{Kind, float, number, collider, body, mark, rule, read_kind, Item, plain, optional, setting, Fields, joined_taken, one_field, read_kinds, present, zeros_for, absent, unsaid, dash_read, end_read, default_or, dash_or, read_item, read_items, shape, Line, read_line}
 
 kind_under : (k : Kind) (xs : List ℕ) → Under 4294967296 (read_kind k xs)

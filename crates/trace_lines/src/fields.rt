@@ -8,14 +8,14 @@ use layout::limits::{BODIES, COLLIDERS};
 use text::reader::{Number, Word, read_decimal, read_word};
 
 // A field's value, the place after it, and whether the value is in its range.
-#[derive(Drop)]
+#[derive(Clone, Copy)]
 pub struct Field {
     pub value: u32,
     pub next: usize,
     pub fits: bool,
 }
 
-#[derive(Drop)]
+#[derive(Clone, Copy)]
 pub enum FieldRead {
     FieldIs(Field),
     NoField,

@@ -8,14 +8,14 @@ ghost use Rattle.trace_lines.specs.Answers.{zero_behind, ItemsReadAt};
 use crate::fields::{FieldRead, byte_is, dash_at, read_kind};
 
 // The place after what was read, the words in the row, and whether all numbers are in their ranges.
-#[derive(Drop)]
+#[derive(Clone, Copy)]
 pub struct Extent {
     pub next: usize,
     pub count: usize,
     pub fits: bool,
 }
 
-#[derive(Drop)]
+#[derive(Clone, Copy)]
 pub enum ItemsRead {
     ItemsAre(Extent),
     NoItems,

@@ -1,4 +1,6 @@
 // A trace's lines, read by their place: docs/TRACES.md, 'Lines'.
+#![tactic(auto)]
+
 mod fields;
 mod items;
 pub mod line;

@@ -14,14 +14,14 @@ use layout::body::BODY_SIZE;
 pub const LINE_WORDS: usize = BODY_SIZE;
 
 // The letter, the place after the line, and whether all numbers are in their ranges.
-#[derive(Drop)]
+#[derive(Clone, Copy)]
 pub struct ReadLine {
     pub letter: u8,
     pub next: usize,
     pub fits: bool,
 }
 
-#[derive(Drop)]
+#[derive(Clone, Copy)]
 pub enum LineRead {
     Line(ReadLine),
     Unreadable,

@@ -7,13 +7,13 @@ const CODES: [u8; 77] =
     *b"ccBBmmffffffmfrfrScBfffffffffnnRRFmbmffffffffffffffffRFFfccmccfffffffffffffnn";
 
 // Where a record's items stand in the table.
-#[derive(Drop)]
+#[derive(Clone, Copy)]
 pub struct Shape {
     pub start: usize,
     pub count: usize,
 }
 
-#[derive(Drop)]
+#[derive(Clone, Copy)]
 pub enum ShapeRead {
     Shaped(Shape),
     NoShape,

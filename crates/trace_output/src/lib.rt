@@ -1,4 +1,6 @@
-// A trace played at capacity 4, printed to standard output as it plays.
+// A trace played at capacity 4, written out as it plays.
+#![tactic(auto)]
+
 use contact_graph::lay_out::lay_out;
 use layout::body::BODIES_LENGTH;
 use layout::change::CHANGE_SIZE;
@@ -10,7 +12,8 @@ use layout::limits::MOST_WORKERS;
 use layout::proposal::PROPOSAL_SIZE;
 use layout::settings::SETTINGS_LENGTH;
 use layout::shares::SHARES_ENTRIES;
-use libc::STDOUT_FILENO;
+use std::io;
+use std::io::Write;
 use trace_player::play::{PlayAnswer, play_line};
 use trace_player::player::Player;
 use trace_printing::lines::PRINTED_SIZE;
@@ -36,7 +39,7 @@ const CHANGES_LENGTH: usize = CAPACITY * CHANGE_SIZE;
 const PRINTED_LENGTH: usize = CAPACITY * PRINTED_SIZE;
 
 // A line has a byte at least, so that as many calls as the trace has bytes are enough.
-pub fn print_trace(trace: &[u8]) {
+pub fn print_trace<W: Write>(to: &mut W, trace: &[u8]) -> io::Result<()> {
     let mut graph = [0u32; GRAPH_LENGTH];
     let mut settings = [0u32; SETTINGS_LENGTH];
     let mut colliders = [0u32; COLLIDERS_LENGTH];
@@ -68,14 +71,15 @@ pub fn print_trace(trace: &[u8]) {
             &mut out,
         );
         let PlayAnswer::Played(line) = answer else {
-            return;
+            return Ok(());
         };
         let written = line.written;
         if written > PRINTED_LENGTH {
-            return;
+            return Ok(());
         }
-        io::write_all(STDOUT_FILENO, &out[..written]);
+        to.write_all(&out[..written])?;
         player = line.player;
         k += 1;
     }
+    Ok(())
 }

@@ -1,7 +1,7 @@
 -- The line at the player's place, from what `read_line` and `follow` answer. Assumes nothing.
-use Rattle.std.specs.Prelude.{ℕ, ◌-◌, ◌≤◌, ◌≡◌, refl, Bool, cond, ◌&&◌, ◌||◌, List, eqb, length, drop}
-use Rattle.std.proofs.Common.{arith, sym, ap, ◌∙◌, length-drop, eq-eqb, ne_eqb}
-use Rattle.std.proofs.Math.Option.{Option, none, some}
+use Rattle.std.specs.Prelude.{ℕ, ◌-◌, ◌≤◌, ◌≡◌, refl, ◌&&◌, ◌||◌, List, eqb, length, drop}
+use Rattle.std.proofs.Common.{arith, ap, ◌∙◌, length-drop, eq-eqb, ne_eqb}
+use Rattle.std.proofs.Math.Option.{none, some}
 use Rattle.text.specs.Text.{Taken}
 use Rattle.trace_rules.specs.Fields.{Line, read_line, addition_letter, go_letter}
 use Rattle.trace_rules.specs.Reading.{Context, follow}
@@ -10,7 +10,6 @@ use Rattle.trace_rules.specs.Places.{place_of}
 use Rattle.trace_lines.specs.Promises.{LineIs}
 use Rattle.trace_lines.specs.declared.line.ReadLine.{ReadLine}
 use Rattle.trace_player.specs.declared.player.Player.{Player}
-use Rattle.trace_player.specs.declared.player.AskedLine.{AskedLine}
 use Rattle.trace_player.specs.Player.{player_at, context_of, player_after, unreadable_line, readable_line, asked, lettered, LineAsked}
 
 -- where what is left after a place begins

@@ -1,19 +1,16 @@
 -- One call of `play_line`, from what its parts answer. Assumes nothing.
-use Rattle.std.specs.Prelude.{ℕ, ◌+◌, ◌≤◌, ◌<◌, ◌≡◌, refl, Bool, true, false, cond, not, ◌&&◌, List, [], ◌∷◌, eqb, leb, length, drop}
-use Rattle.std.proofs.Common.{zero-add, arith, sym, ap, subst, ◌∙◌}
-use Rattle.std.proofs.Math.Option.{some}
+use Rattle.std.specs.Prelude.{ℕ, ◌≤◌, ◌<◌, ◌≡◌, refl, true, false, List, [], ◌∷◌, length, drop}
+use Rattle.std.proofs.Common.{zero-add, arith, sym, ap, ◌∙◌}
 use borrow.Author.Tests.{eq-eqb, ne_eqb, le-leb, lt-leb}
 use Rattle.rows.specs.Rows.{put}
 use Rattle.words.specs.Words.{word_at}
 use Rattle.rows.specs.Laws.{get_d_put}
 use Rattle.text.specs.Text.{Taken, Written}
 use Rattle.layout.specs.Request.{request_length}
-use Rattle.contact_graph.specs.Calls.{request_of}
 use Rattle.contact_range.specs.Recorded.{capacity_of}
 use Rattle.step.specs.Step.{Given, Rows, long, lengths_fit}
-use Rattle.trace_rules.specs.Fields.{Line, read_line, addition_letter, go_letter}
+use Rattle.trace_rules.specs.Fields.{Line, addition_letter, go_letter}
 use Rattle.trace_rules.specs.Printed.{refused_text, unreadable}
-use Rattle.trace_rules.specs.Play.{play_addition}
 use Rattle.trace_lines.specs.WidthLaws.{line_width}
 use Rattle.trace_lines.specs.Widths.{width_of}
 use Rattle.trace_player.specs.declared.player.Player.{Player}
@@ -21,8 +18,8 @@ use Rattle.trace_player.specs.declared.player.AskedLine.{AskedLine}
 use Rattle.trace_player.specs.declared.play.PlayedLine.{PlayedLine}
 use Rattle.trace_player.specs.declared.play.PlayAnswer.TheVariants as answer
 use Rattle.contact_types.specs.declared.refusal.Refusal.TheVariants.{WrongLength}
-use Rattle.trace_player.specs.Player.{player_at, Asked, unreadable_line, readable_line, asked, LineAsked}
-use Rattle.trace_player.specs.Played.{Lent, lent, printed_length, lent_fits, LineAnswer, refused, ended, played, AfterLine, Effect, printing, go_effect, addition_effect, line_effect, request_words, unreadable_effect, asked_after, after_line, Made, AdditionMade, AskedPlayed, LinePlayed}
+use Rattle.trace_player.specs.Player.{player_at, unreadable_line, readable_line, asked, LineAsked}
+use Rattle.trace_player.specs.Played.{Lent, lent, printed_length, lent_fits, refused, ended, played, AfterLine, Effect, printing, go_effect, addition_effect, line_effect, request_words, unreadable_effect, asked_after, after_line, Made, AdditionMade, AskedPlayed, LinePlayed}
 use Rattle.trace_player.specs.PlayLaws.{first_true, nothing_written}
 
 module _ (xs : List ℕ) (p : Player) (l : Lent) where

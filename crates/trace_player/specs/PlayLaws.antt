@@ -1,5 +1,5 @@
 -- What an addition and a step print, from what the calls promise. Assumes nothing.
-use Rattle.std.specs.Prelude.{ℕ, zero, suc, ◌*◌, ◌≤◌, ◌≡◌, Bool, ◌&&◌, List, []}
+use Rattle.std.specs.Prelude.{ℕ, ◌≡◌, Bool, ◌&&◌, List, []}
 use Rattle.std.proofs.Common.{arith, sym, ap₂, subst, ◌∙◌}
 use Rattle.std.proofs.Math.Path.{refl, ap}
 use Rattle.std.proofs.Math.Bool.{true, false, cond}
@@ -9,22 +9,17 @@ use Rattle.std.proofs.Math.ListN.{length}
 use Rattle.rows.specs.Rows.{put, each}
 use Rattle.rows.specs.Laws.{length_put}
 use Rattle.text.specs.Text.{Written}
-use Rattle.layout.specs.Change.{change_size}
-use Rattle.layout.specs.Event.{event_size}
 use Rattle.contact_types.specs.Refusals.{number_of}
-use Rattle.contact_types.specs.declared.refusal.Refusal.{Refusal}
 use Rattle.contact_graph.specs.CallLaws.{checked}
 use Rattle.contact_graph.specs.Calls.{add_refusal, new_id_of, added_words}
 use Rattle.contact_graph.specs.Promises as graph
 use Rattle.contact_graph.specs.Promises.{Added, add_answer}
 use Rattle.contact_graph.specs.declared.call.Request.{Request}
 use Rattle.contact_graph.specs.declared.add.AddAnswer.{AddAnswer}
-use Rattle.contact_graph.specs.declared.add.AddAnswer.TheVariants as add
 use Rattle.status_pass.specs.EventsAndChanges.{event_words, change_words}
 use Rattle.step.specs.Step as step
 use Rattle.step.specs.Step.{Given, Rows, given_long, rows_long, lengths_fit, step_refusal, pass_of, rows_of, answer_of, Stepped}
-use Rattle.step.specs.Read.{events_of, changes_of}
-use Rattle.step.specs.ReadLaws.{events_room, changes_room, events_read, changes_read}
+use Rattle.step.proofs.ReadLaws.{events_room, changes_room, events_read, changes_read}
 use Rattle.step.specs.declared.answer.StepReport.{StepReport}
 use Rattle.step.specs.declared.answer.StepAnswer.{StepAnswer}
 use Rattle.step.specs.declared.answer.StepAnswer.TheVariants as answer
@@ -38,7 +33,7 @@ use Rattle.contact_range.specs.Range.{right_length, in_range}
 use Rattle.contact_range.specs.Recorded.{capacity_of}
 use Rattle.trace_rules.specs.Places.{lines_between}
 use Rattle.trace_player.specs.declared.player.Player.{Player}
-use Rattle.trace_player.specs.Played.{Lent, lent, Effect, step_effect, go_effect, Made, answer_text, Room}
+use Rattle.trace_player.specs.Played.{lent, Effect, step_effect, go_effect, Made, answer_text, Room}
 
 -- ---- an addition
 abbrev pub IsAdded : graph.IdAnswer → Type 0

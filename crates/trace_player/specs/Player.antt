@@ -2,7 +2,6 @@
 use Rattle.std.specs.Prelude.{ℕ, ◌≡◌, Bool, true, false, cond, List, [], drop}
 use Rattle.std.proofs.Math.Option.{Option, none, some}
 use Rattle.rows.specs.Rows.{put}
-use Rattle.text.specs.Text.{Taken}
 use Rattle.trace_rules.specs.Fields.{Line, read_line, go_letter}
 use Rattle.trace_rules.specs.Reading.{is, Context, follow}
 use Rattle.trace_rules.specs.Records.{fits_after}

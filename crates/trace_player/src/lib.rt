@@ -1,4 +1,6 @@
 // A trace played line by line over lent rows: docs/TRACES.md.
+#![tactic(auto)]
+
 mod additions;
 mod fill;
 mod go;

@@ -15,13 +15,13 @@ use trace_printing::cells::write_refused;
 use trace_printing::lines::PRINTED_SIZE;
 
 // The player for the next line, and how many bytes the line printed, from the start of the row for them.
-#[derive(Drop)]
+#[derive(Clone, Copy)]
 pub struct PlayedLine {
     pub player: Player,
     pub written: usize,
 }
 
-#[derive(Drop)]
+#[derive(Clone, Copy)]
 pub enum PlayAnswer {
     Played(PlayedLine),
     Ended,

@@ -6,7 +6,7 @@ use trace_lines::line::{LINE_WORDS, LineRead, read_line};
 
 // The place of the next line; where the lines since the last go begin; whether the line above is a manifold or a point; whether settings
 // stand among those lines; whether all their numbers are in range, those of additions apart.
-#[derive(Drop)]
+#[derive(Clone, Copy)]
 pub struct Player {
     pub place: usize,
     pub stretch: usize,
@@ -16,26 +16,26 @@ pub struct Player {
 }
 
 // A line's letter, and the player after it.
-#[derive(Drop)]
+#[derive(Clone, Copy)]
 pub struct AskedLine {
     pub letter: u8,
     pub player: Player,
 }
 
-#[derive(Drop)]
+#[derive(Clone, Copy)]
 pub enum Asked {
     Line(AskedLine),
     Unreadable,
 }
 
 // What the next line may be.
-#[derive(Drop)]
+#[derive(Clone, Copy)]
 pub struct Next {
     pub after_point: bool,
     pub settings: bool,
 }
 
-#[derive(Drop)]
+#[derive(Clone, Copy)]
 pub enum Followed {
     May(Next),
     MayNot,

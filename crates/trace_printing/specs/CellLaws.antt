@@ -1,5 +1,5 @@
 -- How long a cell is at most. Assumes nothing.
-use Rattle.std.specs.Prelude.{ℕ, ◌≤◌, length}
+use Rattle.std.specs.Prelude.{◌≤◌, length}
 use Rattle.std.proofs.Common.{arith}
 use Rattle.text.specs.SpelledLaws.{length_decimal}
 use Rattle.trace_rules.specs.Printed.{Cell, number, negative, absent, cell_text}

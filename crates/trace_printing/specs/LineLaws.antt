@@ -1,5 +1,5 @@
 -- The lines of events and changes: their cells, their lengths, one after another. Assumes nothing.
-use Rattle.std.specs.Prelude.{◌≡◌, Bool, true, false, cond, ℕ, suc, ◌+◌, ◌-◌, ◌*◌, ◌^◌, ◌≤◌, ◌<◌, eqb, length}
+use Rattle.std.specs.Prelude.{◌≡◌, Bool, true, false, cond, ℕ, ◌+◌, ◌-◌, ◌*◌, ◌≤◌, eqb, length}
 use Rattle.std.proofs.Math.Path.{refl, ap}
 use Rattle.std.proofs.Common.{sym, subst, ◌∙◌, add-one, eq-eqb, ne_eqb, length-append}
 use mathlib.Core.List.{List, [], ◌∷◌, ◌++◌, map, map-append, append_assoc, append-nil}
@@ -9,13 +9,12 @@ use Rattle.rows.specs.Rows.{each}
 use Rattle.rows.specs.EachLaws.{each_append}
 use Rattle.rows.specs.Slots.{upto}
 use Rattle.rows.specs.SlotLaws.{length_upto}
-use Rattle.rules.specs.Records.{Names}
 use Rattle.rules.specs.Status.{Event, started, ended, Change, start, stop, count}
 use Rattle.words.specs.Words.{word_at}
 use Rattle.layout.specs.Change.{change_body1, change_body2, change_contact, change_count}
 use Rattle.contact_records.specs.Recorded.{int_of}
 use Rattle.step.specs.Read.{names_at, event_at, change_at}
-use Rattle.text.specs.Text.{Written, line_feed}
+use Rattle.text.specs.Text.{Written}
 use Rattle.text.specs.WrittenLaws.{written_then}
 use Rattle.trace_rules.specs.Printed.{Cell, number, cell_text, cells_text, printed_line, optional_cell, event_letter, event_cells, event_text, change_letter, change_text, change_cells}
 use Rattle.trace_printing.specs.CellLaws.{length_cell}

@@ -6,7 +6,7 @@ ghost use Rattle.trace_printing.specs.Cells.{cell_of};
 
 use text::writer::{write_byte, write_decimal};
 
-#[derive(Drop)]
+#[derive(Clone, Copy)]
 pub enum Cell {
     Number(u32),
     Negative(u32),

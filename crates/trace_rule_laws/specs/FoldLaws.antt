@@ -2,7 +2,7 @@
 use Rattle.std.specs.Prelude.{ℕ, ◌*◌, ◌≡◌, Bool, true, false, cond, ◌&&◌, ◌||◌, eqb, drop}
 use Rattle.std.proofs.Math.Path.{refl}
 use Rattle.std.proofs.Common.{sym, ap, ◌∙◌, eqb-true}
-use Rattle.std.proofs.Math.Bool.{and_true, or-true}
+use Rattle.std.proofs.Math.Bool.{and-true, or-true}
 use mathlib.Core.List.{List, [], ◌∷◌, ◌++◌}
 use Rattle.std.proofs.Math.Option.{none, some}
 use Rattle.rows.specs.Rows.{put}
@@ -56,7 +56,7 @@ idle_record letter size l e row = ap (λ (t : Bool). cond t (put row (word_of l 
 
 pub idle_fits : (l : Line) → l.fits ≡ true → (fits : Bool) → fits_after fits l ≡ fits
 unfolding fits_after
-idle_fits l e fits = ap (λ (t : Bool). fits && (is addition_letter l || t)) e ∙ ap (λ (t : Bool). fits && t) (or-true (is addition_letter l)) ∙ and_true fits
+idle_fits l e fits = ap (λ (t : Bool). fits && (is addition_letter l || t)) e ∙ ap (λ (t : Bool). fits && t) (or-true (is addition_letter l)) ∙ and-true fits
 
 -- a pair's proposal, by what the line is and whether it names the pair
 abbrev pub proposing_by : (hook manifold point names : Bool) → Line → Proposing → Proposing

@@ -4,7 +4,7 @@ use Prim.Native.Nat.{ℕ, zero, suc, ◌+◌, ◌<◌}
 use Rattle.std.proofs.Common.{zero-add, arith, sym, subst, ◌∙◌, true≢false, eqb-true, get_or-append-add}
 use Rattle.std.specs.Prelude.{◌≡◌, Bool, cond, ◌&&◌, ◌||◌, eqb, get_or}
 use Rattle.std.proofs.Math.Path.{refl, ap}
-use Rattle.std.proofs.Math.Bool.{true, false, and_true}
+use Rattle.std.proofs.Math.Bool.{true, false, and-true}
 use mathlib.Core.List.{List, [], ◌∷◌, ◌++◌}
 use Rattle.std.proofs.Math.Option.{Option, none, some, none-ne-some}
 use Rattle.std.proofs.Math.ListN.{length}
@@ -67,7 +67,7 @@ pub setting_said : (xs : List ℕ) (v : Taken ℕ) → read_kind mark xs ≡ som
 unfolding read_item read_kinds
 setting_said xs v e =
     rw (said_no_end xs v e, said_no_dash xs v e, e)
-    (ap (λ (b : Bool). some (record { value = record { words = 1 ∷ v.value ∷ []; fits = b }; rest = v.rest })) (and_true (kind_fits mark v.value)))
+    (ap (λ (b : Bool). some (record { value = record { words = 1 ∷ v.value ∷ []; fits = b }; rest = v.rest })) (and-true (kind_fits mark v.value)))
 
 -- ---- T, from what its fixed fields read to
 
@@ -84,21 +84,21 @@ pub settings_missing : (xs rest : List ℕ) (f : Fields) → read_items fixed_sh
     → read_line (settings_letter ∷ xs) ≡ some (record { value = record { letter = settings_letter; words = f.words ++ 1 ∷ 0 ∷ []; fits = f.fits }; rest = rest })
 settings_missing xs rest f e =
     settings_read xs (line_feed ∷ rest) rest f unsaid e (setting_missing rest)
-    ∙ ap (λ (b : Bool). some (record { value = record { letter = settings_letter; words = f.words ++ 1 ∷ 0 ∷ []; fits = b }; rest = rest })) (and_true f.fits)
+    ∙ ap (λ (b : Bool). some (record { value = record { letter = settings_letter; words = f.words ++ 1 ∷ 0 ∷ []; fits = b }; rest = rest })) (and-true f.fits)
 
 -- a dash, and it ends: the same line
 pub settings_dash : (xs rest : List ℕ) (f : Fields) → read_items fixed_shape xs ≡ some (record { value = f; rest = tab ∷ dash ∷ line_feed ∷ rest })
     → read_line (settings_letter ∷ xs) ≡ some (record { value = record { letter = settings_letter; words = f.words ++ 1 ∷ 0 ∷ []; fits = f.fits }; rest = rest })
 settings_dash xs rest f e =
     settings_read xs (tab ∷ dash ∷ line_feed ∷ rest) rest f unsaid e (setting_dash (line_feed ∷ rest))
-    ∙ ap (λ (b : Bool). some (record { value = record { letter = settings_letter; words = f.words ++ 1 ∷ 0 ∷ []; fits = b }; rest = rest })) (and_true f.fits)
+    ∙ ap (λ (b : Bool). some (record { value = record { letter = settings_letter; words = f.words ++ 1 ∷ 0 ∷ []; fits = b }; rest = rest })) (and-true f.fits)
 
 -- a number v, and it ends
 pub settings_said : (xs ys rest : List ℕ) (f : Fields) (v : ℕ) → read_items fixed_shape xs ≡ some (record { value = f; rest = ys }) → read_kind mark ys ≡ some (record { value = v; rest = line_feed ∷ rest })
     → read_line (settings_letter ∷ xs) ≡ some (record { value = record { letter = settings_letter; words = f.words ++ 1 ∷ v ∷ []; fits = f.fits && kind_fits mark v }; rest = rest })
 settings_said xs ys rest f v e h =
     settings_read xs ys rest f (record { words = 1 ∷ v ∷ []; fits = kind_fits mark v }) e (setting_said ys (record { value = v; rest = line_feed ∷ rest }) h)
-    ∙ ap (λ (b : Bool). some (record { value = record { letter = settings_letter; words = f.words ++ 1 ∷ v ∷ []; fits = f.fits && b }; rest = rest })) (and_true (kind_fits mark v))
+    ∙ ap (λ (b : Bool). some (record { value = record { letter = settings_letter; words = f.words ++ 1 ∷ v ∷ []; fits = f.fits && b }; rest = rest })) (and-true (kind_fits mark v))
 
 -- ---- a setting's presence mark
 
@@ -191,33 +191,33 @@ module _ (k : ℕ) (inside : k < settings_length) (s : ShapeNamed k (shape setti
   line_named xs t e = subst (AnyNamed k) e (any_named k s xs)
 
   -- the row after the lines since the last go
-  abbrev rowAfter : List Line → List ℕ
-  rowAfter since = fold settings_after (zeros settings_length) since
+  abbrev row_after : List Line → List ℕ
+  row_after since = fold settings_after (zeros settings_length) since
 
   -- with one line more: a T since the last go, or this one
-  row_named : (since : List Line) (xs : List ℕ) (t : Taken Line) (had : Bool) → read_line xs ≡ some t → (had ≡ true → word_at (rowAfter since) k ≡ 1) → (had || is settings_letter t.value) ≡ true
-      → word_at (rowAfter (since ++ t.value ∷ [])) k ≡ 1
+  row_named : (since : List Line) (xs : List ℕ) (t : Taken Line) (had : Bool) → read_line xs ≡ some t → (had ≡ true → word_at (row_after since) k ≡ 1) → (had || is settings_letter t.value) ≡ true
+      → word_at (row_after (since ++ t.value ∷ [])) k ≡ 1
   unfolding fold settings_after
   row_named since xs t had e h o =
       ap (λ (row : List ℕ). word_at row k) (fold_append settings_after (zeros settings_length) since (t.value ∷ [])) ∙ by (is settings_letter t.value) refl had h o
     where
-      by : (b : Bool) → is settings_letter t.value ≡ b → (had : Bool) → (had ≡ true → word_at (rowAfter since) k ≡ 1) → (had || b) ≡ true
-          → word_at (cond b (put (rowAfter since) 0 t.value.words) (rowAfter since)) k ≡ 1
+      by : (b : Bool) → is settings_letter t.value ≡ b → (had : Bool) → (had ≡ true → word_at (row_after since) k ≡ 1) → (had || b) ≡ true
+          → word_at (cond b (put (row_after since) 0 t.value.words) (row_after since)) k ≡ 1
       by true f had h o =
           let n : length t.value.words ≡ settings_length = line_width xs t e ∙ ap width_of (eqb-true t.value.letter settings_letter f) ∙ settings_width in
-          let m : length (rowAfter since) ≡ settings_length = fold_long (zeros settings_length) since ∙ length_zeros settings_length in
-          ap (λ (j : ℕ). word_at (put (rowAfter since) 0 t.value.words) j) (sym (zero-add k))
-          ∙ get_d_put (rowAfter since) 0 t.value.words k 0 (omega (arith, n, inside)) (omega (arith, m, inside)) ∙ line_named xs t e f
+          let m : length (row_after since) ≡ settings_length = fold_long (zeros settings_length) since ∙ length_zeros settings_length in
+          ap (λ (j : ℕ). word_at (put (row_after since) 0 t.value.words) j) (sym (zero-add k))
+          ∙ get_d_put (row_after since) 0 t.value.words k 0 (omega (arith, n, inside)) (omega (arith, m, inside)) ∙ line_named xs t e f
       by false f true h o = h refl
       by false f false h o = absurd (true≢false (sym o))
 
   -- a go, and any other line
-  entry_named : (since : List Line) (l : Line) (ls : List Line) → (is go_letter l ≡ true → (word_at (rowAfter since) k ≡ 1) × Named k (entries_from [] ls))
+  entry_named : (since : List Line) (l : Line) (ls : List Line) → (is go_letter l ≡ true → (word_at (row_after since) k ≡ 1) × Named k (entries_from [] ls))
       → (is go_letter l ≡ false → Named k (entries_from (since ++ l ∷ []) ls)) → Named k (entries_from since (l ∷ ls))
   unfolding entries_from step_record
   entry_named since l ls go other = by (is go_letter l) (is addition_letter l) go other
     where
-      by : (g a : Bool) → (g ≡ true → (word_at (rowAfter since) k ≡ 1) × Named k (entries_from [] ls)) → (g ≡ false → Named k (entries_from (since ++ l ∷ []) ls))
+      by : (g a : Bool) → (g ≡ true → (word_at (row_after since) k ≡ 1) × Named k (entries_from [] ls)) → (g ≡ false → Named k (entries_from (since ++ l ∷ []) ls))
           → Named k (cond g (stepping (step_record since) ∷ entries_from [] ls) (cond a (addition l.words ∷ entries_from (since ++ l ∷ []) ls) (entries_from (since ++ l ∷ []) ls)))
       by true a h o = h refl
       by false true h o = o refl
@@ -227,13 +227,13 @@ module _ (k : ℕ) (inside : k < settings_length) (s : ShapeNamed k (shape setti
   abbrev Led : List Line → Line → Option Context → Type 0
   Led since l none = Unit {0}
   Led since l (some d) =
-      (is go_letter l ≡ true → (word_at (rowAfter since) k ≡ 1) × (d.settings ≡ false)) × (is go_letter l ≡ false → d.settings ≡ true → word_at (rowAfter (since ++ l ∷ [])) k ≡ 1)
+      (is go_letter l ≡ true → (word_at (row_after since) k ≡ 1) × (d.settings ≡ false)) × (is go_letter l ≡ false → d.settings ≡ true → word_at (row_after (since ++ l ∷ [])) k ≡ 1)
 
-  line_leads : (c : Context) (since : List Line) (xs : List ℕ) (t : Taken Line) → read_line xs ≡ some t → (c.settings ≡ true → word_at (rowAfter since) k ≡ 1) → Led since t.value (follow c t.value)
+  line_leads : (c : Context) (since : List Line) (xs : List ℕ) (t : Taken Line) → read_line xs ≡ some t → (c.settings ≡ true → word_at (row_after since) k ≡ 1) → Led since t.value (follow c t.value)
   unfolding follow
   line_leads c since xs t e h = by (is point_letter t.value) (is go_letter t.value) refl refl c.after_point c.settings h
     where
-      by : (p g : Bool) → is point_letter t.value ≡ p → is go_letter t.value ≡ g → (above had : Bool) → (had ≡ true → word_at (rowAfter since) k ≡ 1)
+      by : (p g : Bool) → is point_letter t.value ≡ p → is go_letter t.value ≡ g → (above had : Bool) → (had ≡ true → word_at (row_after since) k ≡ 1)
           → Led since t.value
           (cond p (cond above (some (record { after_point = above; settings = had })) none)
           (cond g (cond had (some beginning) none) (some (record { after_point = is manifold_letter t.value; settings = had || is settings_letter t.value }))))
@@ -244,14 +244,14 @@ module _ (k : ℕ) (inside : k < settings_length) (s : ShapeNamed k (shape setti
       by false true p q above false h = tt
       by false false p q above had h = (λ r. absurd (true≢false (sym r ∙ q)), λ r o. row_named since xs t had e h o)
 
-  entries_named : (most : ℕ) (c : Context) (xs : List ℕ) (since : List Line) → (c.settings ≡ true → word_at (rowAfter since) k ≡ 1) → Named k (entries_from since (read_lines most c xs).lines)
+  entries_named : (most : ℕ) (c : Context) (xs : List ℕ) (since : List Line) → (c.settings ≡ true → word_at (row_after since) k ≡ 1) → Named k (entries_from since (read_lines most c xs).lines)
   unfolding read_lines at_end entries_from
   entries_named zero c xs since h = tt
   entries_named (suc most) c [] since h = tt
   entries_named (suc most) c (x ∷ xs) since h = read (read_line (x ∷ xs)) refl (entries_named most)
     where
       followed : (t : Taken Line) (o : Option Context) → Led since t.value o
-          → ((d : Context) (ys : List ℕ) (ls : List Line) → (d.settings ≡ true → word_at (rowAfter ls) k ≡ 1) → Named k (entries_from ls (read_lines most d ys).lines))
+          → ((d : Context) (ys : List ℕ) (ls : List Line) → (d.settings ≡ true → word_at (row_after ls) k ≡ 1) → Named k (entries_from ls (read_lines most d ys).lines))
           → Named k (entries_from since (or_unreadable o (λ d. begins t.value (read_lines most d t.rest))).lines)
       followed t none a rec = tt
       followed t (some d) a rec =
@@ -259,7 +259,7 @@ module _ (k : ℕ) (inside : k < settings_length) (s : ShapeNamed k (shape setti
           (λ g. rec d t.rest (since ++ t.value ∷ []) (a.1 g))
 
       read : (o : Option (Taken Line)) → read_line (x ∷ xs) ≡ o
-          → ((d : Context) (ys : List ℕ) (ls : List Line) → (d.settings ≡ true → word_at (rowAfter ls) k ≡ 1) → Named k (entries_from ls (read_lines most d ys).lines))
+          → ((d : Context) (ys : List ℕ) (ls : List Line) → (d.settings ≡ true → word_at (row_after ls) k ≡ 1) → Named k (entries_from ls (read_lines most d ys).lines))
           → Named k (entries_from since (or_unreadable o (λ t. or_unreadable (follow c t.value) (λ d. begins t.value (read_lines most d t.rest)))).lines)
       read none e rec = tt
       read (some t) e rec = followed t (follow c t.value) (line_leads c since (x ∷ xs) t e h) rec

@@ -93,12 +93,14 @@ order_append (turned l e o) p = turned l e (order_append o p)
 entries_turned : {since since' ls ms : List Line} → EitherOrder since since' → EitherOrder ls ms → entries_from since ls ≡ entries_from since' ms
 unfolding entries_from
 entries_turned s end = refl
-entries_turned s (kept l o) =
-    λ i. entries_by (is go_letter l) (is addition_letter l) (record_order s i) l.words (entries_turned end o i) (entries_turned (order_append s (kept l end)) o i)
+entries_turned {since} {since'} s (kept l o) =
+    λ i. entries_by (is go_letter l) (is addition_letter l) (record_order s i) l.words (entries_turned {since = []} {since' = []} end o i)
+    (entries_turned {since = since ++ l ∷ []} {since' = since' ++ l ∷ []} (order_append s (kept l end)) o i)
 entries_turned {since} {since'} s (turned {ls} {ms} l e o) =
     let a = not_other addition_letter l e refl refl in
     let g = is go_letter l in
-    (λ i. entries_by g (a i) (record_order s i) l.words (entries_turned end o i) (entries_turned (order_append s (turned l e end)) o i))
+    (λ i. entries_by g (a i) (record_order s i) l.words (entries_turned {since = []} {since' = []} end o i)
+    (entries_turned {since = since ++ l ∷ []} {since' = since' ++ exchanged l ∷ []} (order_append s (turned l e end)) o i))
     ∙ (λ i. entries_by g (sym a i) (step_record since') (exchanged_words l.words) (entries_from [] ms) (entries_from (since' ++ exchanged l ∷ []) ms))
 
 pub entries_order : {ls ms : List Line} → EitherOrder ls ms → entries ls ≡ entries ms

@@ -129,15 +129,15 @@ module _ (a b : ℕ) where
           ∙ (λ i. record { hook = s.hook; closed = s.closed; last = with_point (n i) l }) ∙ (λ i. record { hook = s.hook; closed = s.closed; last = sym n i })
 
   -- the pair's manifolds so far, none of them open
-  abbrev closedUp : Proposing → Proposing
-  closedUp s = record { hook = s.hook; closed = s.closed ++ at_most_one s.last; last = none }
+  abbrev closed_up : Proposing → Proposing
+  closed_up s = record { hook = s.hook; closed = s.closed ++ at_most_one s.last; last = none }
 
-  manifold_passed : (s : Proposing) (l : Line) {points : List Line} → is manifold_letter l ≡ true → of_pair a b l ≡ false → Points points → fold (proposing_after a b) s (l ∷ points) ≡ closedUp s
+  manifold_passed : (s : Proposing) (l : Line) {points : List Line} → is manifold_letter l ≡ true → of_pair a b l ≡ false → Points points → fold (proposing_after a b) s (l ∷ points) ≡ closed_up s
   unfolding fold
   manifold_passed s l {points} e out ps =
       ap (λ (u : Proposing). fold (proposing_after a b) u points)
       (proposing_by_lem a b s l ∙ (λ i. proposing_by (other_letter manifold_letter hook_letter l e refl i) (e i) (is point_letter l) (out i) l s))
-      ∙ unjoined (closedUp s) refl ps
+      ∙ unjoined (closed_up s) refl ps
 
   passed_proposal : {g : List ℕ} {passed after : List Line} → PassedOver g passed after → ((l : Line) → Inactive g l → of_pair a b l ≡ false) → (s : Proposing)
       → proposed (fold (proposing_after a b) (fold (proposing_after a b) s passed) after) ≡ proposed (fold (proposing_after a b) s after)
@@ -146,7 +146,7 @@ module _ (a b : ℕ) where
       (idle_one (proposing_after a b) l (λ u. proposing_by_lem a b u l ∙ (λ j. proposing_by (e j) (is manifold_letter l) (is point_letter l) (out l i j) l u)) s)
   passed_proposal {after = after} (manifold {l = l} e r i ps o) out s =
       ap (λ (u : Proposing). proposed (fold (proposing_after a b) u after)) (manifold_passed s l e (out l i) ps)
-      ∙ alike_after (closedUp s) s after o (record { hook = refl; manifolds = append-nil (s.closed ++ at_most_one s.last) })
+      ∙ alike_after (closed_up s) s after o (record { hook = refl; manifolds = append-nil (s.closed ++ at_most_one s.last) })
 
 -- ---- the theorem
 

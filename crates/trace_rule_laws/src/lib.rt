@@ -1,1 +1,2 @@
 // Theorems about the traces of docs/TRACES.md: see specs/. No code.
+#![tactic(auto)]

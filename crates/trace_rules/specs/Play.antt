@@ -1,5 +1,5 @@
 -- A trace played: each entry is a public call, which gets the graph as the last one left it: docs/TRACES.md, 'What lines mean'. Definitions only.
-use Rattle.std.specs.Prelude.{ℕ, zero, suc, ◌+◌, ◌*◌, Bool, true, false, cond, List, [], ◌∷◌, ◌++◌, eqb, ltb, leb, length, take}
+use Rattle.std.specs.Prelude.{ℕ, suc, ◌+◌, ◌*◌, cond, List, [], ◌∷◌, ◌++◌, eqb, ltb, leb, length, take}
 use Rattle.rows.specs.Rows.{put, each}
 use Rattle.rules.specs.Limits.{pair_manifolds, proposed_points}
 use Rattle.words.specs.Words.{word_at}
@@ -14,8 +14,7 @@ use Rattle.contact_graph.specs.Calls.{request_of, add_refusal, added_words}
 use Rattle.contact_graph.specs.declared.call.Request.{Request}
 use Rattle.update_pass.specs.Shared.{active_of, bits_length}
 use Rattle.step.specs.Step.{Given, Rows, step_refusal, pass_of}
-use Rattle.trace_rules.specs.Fields.{Line}
-use Rattle.trace_rules.specs.Reading.{Reading, reading}
+use Rattle.trace_rules.specs.Reading.{reading}
 use Rattle.trace_rules.specs.Records.{Manifold, Proposal, StepRecord, Entry, addition, stepping, entries}
 use Rattle.trace_rules.specs.Printed.{step_text, refused_text, unreadable}
 

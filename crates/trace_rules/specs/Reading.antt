@@ -1,7 +1,6 @@
 -- A trace's lines in turn, up to one that is unreadable: docs/TRACES.md, 'Unreadable lines'. Definitions only.
 use Rattle.std.specs.Prelude.{ℕ, zero, suc, Bool, true, false, cond, ◌||◌, List, [], ◌∷◌, eqb, length}
 use Rattle.std.proofs.Math.Option.{Option, none, some}
-use Rattle.text.specs.Text.{Taken}
 use Rattle.trace_rules.specs.Fields.{Line, read_line, settings_letter, manifold_letter, point_letter, go_letter}
 
 abbrev pub is : ℕ → Line → Bool

@@ -1,5 +1,5 @@
 -- Additions and step records, from a trace's lines: docs/TRACES.md, 'What lines mean'. Definitions only.
-use Rattle.std.specs.Prelude.{ℕ, ◌*◌, Bool, true, false, cond, ◌&&◌, ◌||◌, List, [], ◌∷◌, ◌++◌, get_or, drop}
+use Rattle.std.specs.Prelude.{ℕ, ◌*◌, Bool, true, cond, ◌&&◌, ◌||◌, List, [], ◌∷◌, ◌++◌, get_or, drop}
 use Rattle.std.proofs.Math.Option.{Option, none, some}
 use Rattle.rows.specs.Rows.{put}
 use Rattle.layout.specs.Body.{body_size, bodies_length}

@@ -41,26 +41,26 @@ module _ (s : StepRecord) (g : List ℕ) where
   abbrev l : Rows
   l = blank_rows (capacity_of g)
 
-  abbrev playedAt : ℕ → Played
-  playedAt n = cond (eqb n 0) (record { text = step_text (pass_of x g).events (pass_of x g).changes; graph = (pass_of x g).graph }) (record { text = refused_text n; graph = g })
+  abbrev played_at : ℕ → Played
+  played_at n = cond (eqb n 0) (record { text = step_text (pass_of x g).events (pass_of x g).changes; graph = (pass_of x g).graph }) (record { text = refused_text n; graph = g })
 
   abbrev step_by : Bool → Effect
   step_by t =
       cond t (record { text = step_text (pass_of x g).events (pass_of x g).changes; graph = (pass_of x g).graph; given = x; rows = rows_of x g l })
       (record { text = refused_text (step_refusal x g l); graph = g; given = x; rows = l })
 
-  abbrev playedBy : Bool → Played
-  playedBy t = cond t (record { text = step_text (pass_of x g).events (pass_of x g).changes; graph = (pass_of x g).graph }) (record { text = refused_text (step_refusal x g l); graph = g })
+  abbrev played_by : Bool → Played
+  played_by t = cond t (record { text = step_text (pass_of x g).events (pass_of x g).changes; graph = (pass_of x g).graph }) (record { text = refused_text (step_refusal x g l); graph = g })
 
   go_number : (b : Bool) → s.fits ≡ b → go_refusal s g ≡ cond b (step_refusal x g l) 2
   unfolding go_refusal
   go_number b e = rw e
 
-  effect_played : ((step_effect x g l).text ≡ (playedAt (step_refusal x g l)).text) × ((step_effect x g l).graph ≡ (playedAt (step_refusal x g l)).graph)
+  effect_played : ((step_effect x g l).text ≡ (played_at (step_refusal x g l)).text) × ((step_effect x g l).graph ≡ (played_at (step_refusal x g l)).graph)
   unfolding step_effect
   effect_played = by (eqb (step_refusal x g l) 0)
     where
-      by : (t : Bool) → ((step_by t).text ≡ (playedBy t).text) × ((step_by t).graph ≡ (playedBy t).graph)
+      by : (t : Bool) → ((step_by t).text ≡ (played_by t).text) × ((step_by t).graph ≡ (played_by t).graph)
       by true = (refl, refl)
       by false = (refl, refl)
 
@@ -68,12 +68,12 @@ module _ (s : StepRecord) (g : List ℕ) where
   unfolding play_entry
   step_plays h l' r e k =
       let t = step_told x g l h l' r k in
-      let n = ap playedAt (sym (go_number true e)) in
+      let n = ap played_at (sym (go_number true e)) in
       (t.0 ∙ effect_played.0 ∙ ap (λ (p : Played). p.text) n, t.1 ∙ effect_played.1 ∙ ap (λ (p : Played). p.graph) n)
 
   unfit_plays : s.fits ≡ false → PlaysAs (stepping s) g (refused_text 2) g
   unfolding play_entry
-  unfit_plays e = let n = ap playedAt (sym (go_number false e)) in (ap (λ (p : Played). p.text) n, ap (λ (p : Played). p.graph) n)
+  unfit_plays e = let n = ap played_at (sym (go_number false e)) in (ap (λ (p : Played). p.text) n, ap (λ (p : Played). p.graph) n)
 
 -- ---- the calls of a list print what playing it prints, and leave its graph
 plays_on : (e : Entry) (es : List Entry) (g h first rest last : List ℕ) → PlaysAs e g first h → (rest ≡ (play_entries es h).text) × (last ≡ (play_entries es h).graph)

@@ -1,6 +1,6 @@
 -- A go, as the player plays it and as the definitions have it. Assumes nothing.
-use Rattle.std.specs.Prelude.{ℕ, suc, ◌+◌, ◌*◌, ◌≤◌, ◌≡◌, refl, Bool, true, false, cond, not, ◌&&◌, List, [], ◌∷◌, ◌++◌, eqb, length, drop}
-use Rattle.std.proofs.Common.{arith, sym, ap, subst, ◌∙◌, eq-eqb}
+use Rattle.std.specs.Prelude.{ℕ, ◌*◌, ◌≡◌, refl, Bool, true, false, cond, ◌&&◌, List, [], ◌∷◌, eqb, length, drop}
+use Rattle.std.proofs.Common.{◌∙◌, eq-eqb}
 use Rattle.rows.specs.Rows.{put}
 use Rattle.rows.specs.Laws.{length_put}
 use Rattle.layout.specs.Body.{body_size, bodies_length}
@@ -15,13 +15,12 @@ use Rattle.manifold_records.specs.ListLaws.{length_zeros}
 use Rattle.collider.specs.Range.{settings_fit, colliders_fit, bodies_fit}
 use Rattle.contact_range.specs.Range.{right_length, in_range}
 use Rattle.contact_range.specs.Recorded.{capacity_of, listed_count}
-use Rattle.proposals.specs.Range.{hook_fits}
 use Rattle.update_pass.specs.Shared.{active_of, bits_length}
 use Rattle.step.specs.AcceptedLaws.{refused_numbers}
-use Rattle.step.specs.Step.{Given, Rows, long, given_long, rows_long, lengths_fit, hooks_fit, rows_in_range, numbers_fit, step_refusal, pass_of, rows_of}
+use Rattle.step.specs.Step.{Given, Rows, long, given_long, rows_long, lengths_fit, rows_in_range, numbers_fit, step_refusal, pass_of, rows_of}
 use Rattle.trace_rules.specs.Fields.{Line, settings_letter, collider_letter, body_letter}
 use Rattle.trace_rules.specs.Printed.{step_text, refused_text}
-use Rattle.trace_rules.specs.Records.{word_of, fold, settings_after, record_after, Proposal, StepRecord, step_record}
+use Rattle.trace_rules.specs.Records.{word_of, fold, settings_after, record_after, Proposal, step_record}
 use Rattle.trace_rules.specs.Reading.{is}
 use Rattle.trace_rules.specs.Places.{lines_between}
 use Rattle.trace_rules.specs.Play.{Played, proposal_words, proposal_of, with_proposals, proposals_of, shares_of, given_by, blank_rows, go_refusal, play_go}

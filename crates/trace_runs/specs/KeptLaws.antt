@@ -24,10 +24,10 @@ use Rattle.contact_graph.specs.Calls.{request_of, add_refusal, added_words}
 use Rattle.contact_graph.specs.declared.call.Request.{Request}
 use Rattle.status_pass.specs.EventsAndChanges.{event_words, change_words}
 use Rattle.update_pass.specs.AllLaws.{length_parts}
-use Rattle.update_pass.specs.Shared.{distancesOf, bits_length}
+use Rattle.update_pass.specs.Shared.{distances_of, bits_length}
 use Rattle.step.specs.AcceptedLaws as step
 use Rattle.step.specs.Step.{Given, Rows, long, given_long, rows_long, lengths_fit, step_refusal, made_of, pass_of, rows_of}
-use Rattle.step.specs.StepLaws.{step_checked, step_capacity}
+use Rattle.step.proofs.StepLaws.{step_checked, step_capacity}
 use Rattle.trace_rules.specs.Fields.{Line, addition_letter, go_letter}
 use Rattle.trace_rules.specs.Places.{lines_between}
 use Rattle.trace_rules.specs.Play.{Played, given_by}
@@ -79,21 +79,21 @@ module _ (g : List ℕ) (x : Given) (l : Rows) (f : Fitted (capacity_of g) g x l
       let c = checked ok.right ok.range in
       record { right = right_length_test (added_in_range a c z).right; same = (added_effect a c (accepted_room c ok)).capacity; given = f.given; rows = f.rows }
 
-  abbrev addedBy : Request → Bool → Played
-  addedBy a t = cond t (record { text = []; graph = added_words g a }) (record { text = refused_text (add_refusal g a); graph = g })
+  abbrev added_by : Request → Bool → Played
+  added_by a t = cond t (record { text = []; graph = added_words g a }) (record { text = refused_text (add_refusal g a); graph = g })
 
   addition_kept : (words : List ℕ) → Keeps (capacity_of g) (addition_effect words g x l)
   unfolding addition_effect
   addition_kept words = let a = request_of words in by a (eqb (add_refusal g a) 0) refl
     where
-      by : (a : Request) (t : Bool) → eqb (add_refusal g a) 0 ≡ t → Fitted (capacity_of g) (addedBy a t).graph x l
+      by : (a : Request) (t : Bool) → eqb (add_refusal g a) 0 ≡ t → Fitted (capacity_of g) (added_by a t).graph x l
       by a true e = added_kept a (eqb-true (add_refusal g a) 0 e)
       by a false e = f
 
 -- ---- a step
 module _ (x : Given) (g : List ℕ) (l : Rows) (z : step_refusal x g l ≡ 0) where
   stepped_rows : rows_long (rows_of x g l) (capacity_of g) ≡ true
-  unfolding rows_long rows_of distancesOf
+  unfolding rows_long rows_of distances_of
   stepped_rows =
       let a = step.accepted x g l z in
       let u = made_of x g in

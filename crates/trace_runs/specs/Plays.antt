@@ -3,7 +3,6 @@ use Rattle.std.specs.Prelude.{ℕ, suc, ◌+◌, ◌≡◌, cond, List, [], ◌+
 use Rattle.trace_rules.specs.Reading.{Reading, reading}
 use Rattle.trace_rules.specs.Records.{entries}
 use Rattle.trace_rules.specs.Play.{play_entries, played}
-use Rattle.trace_player.specs.Player.{player_at}
 use Rattle.trace_player.specs.Played.{Lent, LinePlayed}
 use Rattle.trace_player.specs.declared.player.Player.{Player}
 use Rattle.trace_player.specs.declared.play.PlayAnswer.TheVariants as answer

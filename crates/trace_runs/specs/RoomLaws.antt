@@ -1,5 +1,5 @@
 -- What a call prints fits in the row that is lent for it, and is read back from it. Assumes nothing.
-use Rattle.std.specs.Prelude.{ℕ, ◌+◌, ◌*◌, ◌≤◌, ◌<◌, ◌≡◌, refl, Bool, cond, ◌&&◌, List, [], ◌∷◌, eqb, take, drop}
+use Rattle.std.specs.Prelude.{ℕ, ◌+◌, ◌≤◌, ◌<◌, ◌≡◌, refl, Bool, cond, ◌&&◌, List, [], ◌∷◌, eqb, take, drop}
 use native.Mathlib.Omega.{arith}
 use Rattle.std.proofs.Common.{ap, ◌∙◌, eqb-true, length-append}
 use Rattle.std.proofs.Math.Bool.{true, false}
@@ -15,7 +15,7 @@ use Rattle.contact_range.specs.RangeLaws.{right_length_lem}
 use Rattle.contact_range.specs.Recorded.{capacity_of}
 use Rattle.contact_graph.specs.Calls.{request_of, add_refusal, added_words}
 use Rattle.update_pass.specs.Shared.{bits_length}
-use Rattle.step.specs.ReadLaws.{events_room, changes_room}
+use Rattle.step.proofs.ReadLaws.{events_room, changes_room}
 use Rattle.step.specs.Step.{Given, Rows, long, rows_long, lengths_fit, step_refusal, pass_of, rows_of}
 use Rattle.text.specs.Text.{line_feed, decimal_text}
 use Rattle.text.specs.SpelledLaws.{length_decimal}

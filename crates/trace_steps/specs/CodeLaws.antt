@@ -38,11 +38,11 @@ record_room row count size n e h = let r : 0 + n * size + size ≤ length row = 
 
 -- ---- settings, a collider, a body
 module _ (letter : ℕ) (ws s c b : List ℕ) where
-  abbrev colliders-by : Bool → List ℕ
-  colliders-by t = cond t (record_stored limits.colliders collider_size ws c) c
+  abbrev colliders_by : Bool → List ℕ
+  colliders_by t = cond t (record_stored limits.colliders collider_size ws c) c
 
-  abbrev bodies-by : Bool → List ℕ
-  bodies-by t = cond t (record_stored limits.bodies body_size ws b) b
+  abbrev bodies_by : Bool → List ℕ
+  bodies_by t = cond t (record_stored limits.bodies body_size ws b) b
 
   settings_kept : (letter ≡ settings_letter → ⊥) → s ≡ settings_taken letter ws s
   unfolding settings_taken
@@ -53,19 +53,19 @@ module _ (letter : ℕ) (ws s c b : List ℕ) where
   rows_settings e z =
       record {
         settings_are = z ∙ ap (λ (t : Bool). cond t (put s 0 (part ws 0 settings_length)) s) (sym (eq-eqb letter settings_letter e));
-        colliders_are = ap colliders-by (sym (ne_eqb letter collider_letter (λ d. omega arith)));
-        bodies_are = ap bodies-by (sym (ne_eqb letter body_letter (λ d. omega arith)));
+        colliders_are = ap colliders_by (sym (ne_eqb letter collider_letter (λ d. omega arith)));
+        bodies_are = ap bodies_by (sym (ne_eqb letter body_letter (λ d. omega arith)));
       }
 
   pub rows_collider : (letter ≡ settings_letter → ⊥) → letter ≡ collider_letter → {c' : List ℕ} → c' ≡ record_stored limits.colliders collider_size ws c → RowsTaken letter ws s c b s c' b
   rows_collider n e z =
-      record { settings_are = settings_kept n; colliders_are = z ∙ ap colliders-by (sym (eq-eqb letter collider_letter e)); bodies_are = ap bodies-by (sym (ne_eqb letter body_letter (λ d. omega arith))) }
+      record { settings_are = settings_kept n; colliders_are = z ∙ ap colliders_by (sym (eq-eqb letter collider_letter e)); bodies_are = ap bodies_by (sym (ne_eqb letter body_letter (λ d. omega arith))) }
 
   pub rows_body : (letter ≡ settings_letter → ⊥) → (letter ≡ collider_letter → ⊥) → letter ≡ body_letter → {b' : List ℕ} → b' ≡ record_stored limits.bodies body_size ws b → RowsTaken letter ws s c b s c b'
-  rows_body n m e z = record { settings_are = settings_kept n; colliders_are = ap colliders-by (sym (ne_eqb letter collider_letter m)); bodies_are = z ∙ ap bodies-by (sym (eq-eqb letter body_letter e)) }
+  rows_body n m e z = record { settings_are = settings_kept n; colliders_are = ap colliders_by (sym (ne_eqb letter collider_letter m)); bodies_are = z ∙ ap bodies_by (sym (eq-eqb letter body_letter e)) }
 
   pub rows_other : (letter ≡ settings_letter → ⊥) → (letter ≡ collider_letter → ⊥) → (letter ≡ body_letter → ⊥) → RowsTaken letter ws s c b s c b
-  rows_other n m k = record { settings_are = settings_kept n; colliders_are = ap colliders-by (sym (ne_eqb letter collider_letter m)); bodies_are = ap bodies-by (sym (ne_eqb letter body_letter k)) }
+  rows_other n m k = record { settings_are = settings_kept n; colliders_are = ap colliders_by (sym (ne_eqb letter collider_letter m)); bodies_are = ap bodies_by (sym (ne_eqb letter body_letter k)) }
 
 -- ---- a hook line
 module _ (a b : ℕ) (ws row : List ℕ) {own : Bool} (e : own ≡ of_pair_at a b ws) where
@@ -99,68 +99,68 @@ module _ (a b : ℕ) (ws row : List ℕ) (c : Counts) {own : Bool} (e : own ≡ 
   abbrev taken_own : Progress
   taken_own = progress (manifold_stored c.manifolds ws row) (record { manifolds = raised pair_manifolds c.manifolds; last = raised pair_manifolds c.manifolds; points = 0 })
 
-  abbrev taken-other : Progress
-  taken-other = progress row (record { manifolds = c.manifolds; last = 0; points = 0 })
+  abbrev taken_other : Progress
+  taken_other = progress row (record { manifolds = c.manifolds; last = 0; points = 0 })
 
   pub manifold_other : own ≡ false → progress row (record { manifolds = c.manifolds; last = 0; points = 0 }) ≡ manifold_taken a b ws (progress row c)
   unfolding manifold_taken
-  manifold_other t = ap (λ (x : Bool). cond x taken_own taken-other) (sym t ∙ e)
+  manifold_other t = ap (λ (x : Bool). cond x taken_own taken_other) (sym t ∙ e)
 
   pub manifold_own : own ≡ true → {zs : List ℕ} {n : ℕ} → zs ≡ manifold_stored c.manifolds ws row → n ≡ raised pair_manifolds c.manifolds → progress zs (record { manifolds = n; last = n; points = 0 }) ≡ manifold_taken a b ws (progress row c)
   unfolding manifold_taken
-  manifold_own t z m = (λ i. progress (z i) (record { manifolds = m i; last = m i; points = 0 })) ∙ ap (λ (x : Bool). cond x taken_own taken-other) (sym t ∙ e)
+  manifold_own t z m = (λ i. progress (z i) (record { manifolds = m i; last = m i; points = 0 })) ∙ ap (λ (x : Bool). cond x taken_own taken_other) (sym t ∙ e)
 
 -- ---- a point line
 module _ (last points : ℕ) (ws row : List ℕ) where
   abbrev place : ℕ
   place = manifold_place (last - 1)
 
-  abbrev count-put : List ℕ
-  count-put = put row place (raised proposed_points points ∷ [])
+  abbrev count_put : List ℕ
+  count_put = put row place (raised proposed_points points ∷ [])
 
   abbrev point_put : List ℕ
-  point_put = put count-put (place + proposed_manifold_points + points * proposed_point_size) (part ws 0 proposed_point_size)
+  point_put = put count_put (place + proposed_manifold_points + points * proposed_point_size) (part ws 0 proposed_point_size)
 
   pub point_nowhere : pair_manifolds < last → row ≡ point_stored last points ws row
   unfolding point_stored
-  point_nowhere h = ap (λ (b : Bool). cond b (cond (ltb points proposed_points) point_put count-put) row) (sym (lt-leb last pair_manifolds h))
+  point_nowhere h = ap (λ (b : Bool). cond b (cond (ltb points proposed_points) point_put count_put) row) (sym (lt-leb last pair_manifolds h))
 
   module _ (l : last ≤ pair_manifolds) {r : ℕ} (e : r ≡ raised proposed_points points) where
-    count_is : set row place r ≡ count-put
+    count_is : set row place r ≡ count_put
     count_is = put_one row place r ∙ ap (λ (k : ℕ). put row place (k ∷ [])) e
 
-    stored_is : cond (ltb points proposed_points) point_put count-put ≡ point_stored last points ws row
+    stored_is : cond (ltb points proposed_points) point_put count_put ≡ point_stored last points ws row
     unfolding point_stored
-    stored_is = ap (λ (b : Bool). cond b (cond (ltb points proposed_points) point_put count-put) row) (sym (le-leb last pair_manifolds l))
+    stored_is = ap (λ (b : Bool). cond b (cond (ltb points proposed_points) point_put count_put) row) (sym (le-leb last pair_manifolds l))
 
     pub point_full : proposed_points ≤ points → set row place r ≡ point_stored last points ws row
-    point_full h = count_is ∙ ap (λ (b : Bool). cond b point_put count-put) (sym (le-ltb points proposed_points h)) ∙ stored_is
+    point_full h = count_is ∙ ap (λ (b : Bool). cond b point_put count_put) (sym (le-ltb points proposed_points h)) ∙ stored_is
 
     pub point_added : points < proposed_points → {zs : List ℕ} → zs ≡ put (set row place r) (place + proposed_manifold_points + points * proposed_point_size) (part ws 0 proposed_point_size) → zs ≡ point_stored last points ws row
     point_added h z =
-        z ∙ ap (λ (xs : List ℕ). put xs (place + proposed_manifold_points + points * proposed_point_size) (part ws 0 proposed_point_size)) count_is ∙ ap (λ (b : Bool). cond b point_put count-put) (sym (lt-ltb points proposed_points h)) ∙ stored_is
+        z ∙ ap (λ (xs : List ℕ). put xs (place + proposed_manifold_points + points * proposed_point_size) (part ws 0 proposed_point_size)) count_is ∙ ap (λ (b : Bool). cond b point_put count_put) (sym (lt-ltb points proposed_points h)) ∙ stored_is
 
 module _ (ws row : List ℕ) (c : Counts) where
-  abbrev taken-point : Progress
-  taken-point = progress (point_stored c.last c.points ws row) (record { manifolds = c.manifolds; last = c.last; points = raised proposed_points c.points })
+  abbrev taken_point_lem : Progress
+  taken_point_lem = progress (point_stored c.last c.points ws row) (record { manifolds = c.manifolds; last = c.last; points = raised proposed_points c.points })
 
   pub point_joins_none : c.last ≡ 0 → progress row c ≡ point_taken ws (progress row c)
   unfolding point_taken
-  point_joins_none h = ap (λ (x : Bool). cond x (progress row c) taken-point) (sym (eq-eqb c.last 0 h))
+  point_joins_none h = ap (λ (x : Bool). cond x (progress row c) taken_point_lem) (sym (eq-eqb c.last 0 h))
 
   pub point_joins : (c.last ≡ 0 → ⊥) → {zs : List ℕ} {n : ℕ} → zs ≡ point_stored c.last c.points ws row → n ≡ raised proposed_points c.points
       → progress zs (record { manifolds = c.manifolds; last = c.last; points = n }) ≡ point_taken ws (progress row c)
   unfolding point_taken
   point_joins h z m =
-      (λ i. progress (z i) (record { manifolds = c.manifolds; last = c.last; points = m i })) ∙ ap (λ (x : Bool). cond x (progress row c) taken-point) (sym (ne_eqb c.last 0 h))
+      (λ i. progress (z i) (record { manifolds = c.manifolds; last = c.last; points = m i })) ∙ ap (λ (x : Bool). cond x (progress row c) taken_point_lem) (sym (ne_eqb c.last 0 h))
 
 -- ---- a line
 module _ (a b letter : ℕ) (ws row : List ℕ) (c : Counts) where
-  abbrev by-hook : Progress
-  by-hook = progress (hook_taken a b ws row) c
+  abbrev by_hook : Progress
+  by_hook = progress (hook_taken a b ws row) c
 
   abbrev by_tests : Bool → Bool → Bool → Progress
-  by_tests x y z = cond x by-hook (cond y (manifold_taken a b ws (progress row c)) (cond z (point_taken ws (progress row c)) (progress row c)))
+  by_tests x y z = cond x by_hook (cond y (manifold_taken a b ws (progress row c)) (cond z (point_taken ws (progress row c)) (progress row c)))
 
   pub line_hook : letter ≡ hook_letter → {zs : List ℕ} → zs ≡ hook_taken a b ws row → progress zs c ≡ line_taken a b letter ws (progress row c)
   unfolding line_taken

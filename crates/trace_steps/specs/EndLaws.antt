@@ -1,9 +1,9 @@
 -- What is left after a line that is read is an end of the text, and shorter. Assumes nothing.
-use Rattle.std.specs.Prelude.{ℕ, zero, suc, ◌+◌, ◌-◌, ◌*◌, ◌≤◌, ◌<◌, ◌≡◌, refl, Bool, true, false, cond, List, [], ◌∷◌, ◌++◌, eqb, leb, length, drop}
-use Rattle.std.proofs.Common.{arith, sym, ap, subst, ◌∙◌, append_assoc, length-append, drop_at}
+use Rattle.std.specs.Prelude.{ℕ, zero, suc, ◌+◌, ◌-◌, ◌*◌, ◌<◌, ◌≡◌, refl, Bool, true, false, cond, List, [], ◌∷◌, ◌++◌, eqb, leb, length}
+use Rattle.std.proofs.Common.{arith, sym, ap, subst, ◌∙◌, append_assoc, length-append}
 use Rattle.std.proofs.Math.Option.{Option, none, some}
 use Rattle.text.specs.Text.{Taken, after, expect, within, tab, line_feed, hex_digit, digits, word, decimal_from, decimal, largest_number}
-use Rattle.trace_rules.specs.Fields.{Kind, float, number, collider, body, mark, rule, Item, plain, optional, setting, Fields, no_fields, joined_taken, one_field, present, absent, unsaid, dash, dash_read, end_read, default_or, dash_or, read_kind, read_kinds, read_item, read_items, shape, Line, read_line}
+use Rattle.trace_rules.specs.Fields.{Kind, float, number, collider, body, mark, rule, Item, plain, optional, setting, Fields, joined_taken, one_field, present, absent, unsaid, dash, dash_read, end_read, default_or, dash_or, read_kind, read_kinds, read_item, read_items, shape, Line, read_line}
 
 -- ys is what follows some bytes of xs
 abbrev EndOf : List ℕ → List ℕ → Type 0

@@ -131,11 +131,11 @@ module _ {hook : ℕ} {closed : List Manifold} {m : Manifold} {p : Progress} (f 
   abbrev place : ℕ
   place = manifold_place (p.counts.last - 1)
 
-  abbrev count-stored : List ℕ
-  count-stored = put p.row place (raised proposed_points p.counts.points ∷ [])
+  abbrev count_stored : List ℕ
+  count_stored = put p.row place (raised proposed_points p.counts.points ∷ [])
 
   abbrev both_stored : List ℕ
-  both_stored = put count-stored (place + proposed_manifold_points + p.counts.points * proposed_point_size) (part ws 0 proposed_point_size)
+  both_stored = put count_stored (place + proposed_manifold_points + p.counts.points * proposed_point_size) (part ws 0 proposed_point_size)
 
   number : p.counts.last ≡ counted pair_manifolds (k + 1)
   number = f.last.last ∙ f.manifolds ∙ ap (counted pair_manifolds) (length-append closed (m ∷ []))
@@ -154,20 +154,20 @@ module _ {hook : ℕ} {closed : List Manifold} {m : Manifold} {p : Progress} (f 
     place_of_last : place ≡ at
     place_of_last = ap manifold_place (let e : p.counts.last - 1 ≡ k = omega (arith, number, counted_few pair_manifolds (k + 1) (omega arith)) in e)
 
-    counted_at : count-stored ≡ put (put row at (manifold_words m)) at (counted proposed_points (length m.points + 1) ∷ [])
+    counted_at : count_stored ≡ put (put row at (manifold_words m)) at (counted proposed_points (length m.points + 1) ∷ [])
     counted_at = λ i. put (now_at i) (place_of_last i) (points_more i ∷ [])
 
     point_kept : (b : Bool) → ltb (length m.points) proposed_points ≡ b
         → cond (ltb p.counts.points proposed_points)
         both_stored
-        count-stored
+        count_stored
         ≡ put row at (manifold_words then)
     point_kept true e =
         let few = ltb-true (length m.points) proposed_points e in
         let n : p.counts.points ≡ length m.points = f.last.points ∙ counted_few proposed_points (length m.points) (omega arith) in
         ap (λ (b : Bool). cond b
         both_stored
-        count-stored)
+        count_stored)
         (lt-ltb p.counts.points proposed_points (omega arith))
         ∙ (λ i. put (counted_at i) (place_of_last i + proposed_manifold_points + n i * proposed_point_size) (words i))
         ∙ point_room row at m point few f.last.normal f.last.sizes
@@ -175,7 +175,7 @@ module _ {hook : ℕ} {closed : List Manifold} {m : Manifold} {p : Progress} (f 
         let full = ltb-false (length m.points) proposed_points e in
         ap (λ (b : Bool). cond b
         both_stored
-        count-stored)
+        count_stored)
         (le-ltb p.counts.points proposed_points (omega (arith, f.last.points, counted_past proposed_points (length m.points) full)))
         ∙ counted_at ∙ point_past row at m point full
 
@@ -184,7 +184,7 @@ module _ {hook : ℕ} {closed : List Manifold} {m : Manifold} {p : Progress} (f 
     stored_here =
         ap (λ (b : Bool). cond b (cond (ltb p.counts.points proposed_points)
         both_stored
-        count-stored) p.row)
+        count_stored) p.row)
         (le-leb p.counts.last pair_manifolds (omega (arith, number, counted_few pair_manifolds (k + 1) (omega arith))))
         ∙ point_kept (ltb (length m.points) proposed_points) refl ∙ then_at
 
@@ -194,7 +194,7 @@ module _ {hook : ℕ} {closed : List Manifold} {m : Manifold} {p : Progress} (f 
   stored_nowhere h =
       ap (λ (b : Bool). cond b (cond (ltb p.counts.points proposed_points)
       both_stored
-      count-stored) p.row)
+      count_stored) p.row)
       (lt-leb p.counts.last pair_manifolds (omega (arith, number, counted_many pair_manifolds (k + 1) (omega arith))))
       ∙ f.row ∙ last_apart hook closed m
       ∙ ap (λ (b : Bool). cond b (put row at (manifold_words m)) row) (le-ltb k pair_manifolds h)

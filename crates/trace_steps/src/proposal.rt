@@ -32,7 +32,7 @@ const MOST_POINTS: u32 = PROPOSED_POINTS as u32;
 
 // How many manifolds the pair has, the number from 1 on of the one that points join (0: none), and how many points that has.
 // A count past its limit stays at the next number.
-#[derive(Drop)]
+#[derive(Clone, Copy)]
 pub struct Counts {
     pub manifolds: u32,
     pub last: u32,

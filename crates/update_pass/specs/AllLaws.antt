@@ -2,12 +2,12 @@
 use Prim.Native.Nat.{ℕ, zero, suc, ◌+◌, ◌-◌, ◌*◌, ◌≤◌, ◌<◌, suc-le-suc}
 use Rattle.std.proofs.Common.{zero-lt-suc, suc-mul, zero-mul, zero-add, add-zero, add-suc, suc-add, mul-le-mul_right, add-one, ◌∙◌, lt-ltb, length-take-le}
 use native.Mathlib.Omega.{arith}
-use Rattle.std.specs.Prelude.{◌≡◌, ◌≢◌, Bool, true, get_or}
+use Rattle.std.specs.Prelude.{◌≡◌, Bool, get_or}
 use Rattle.std.proofs.Math.Path.{refl, sym, ap, subst}
 use Rattle.std.proofs.Math.Bool.{cond}
 use mathlib.Core.List.{List, [], ◌∷◌, ◌++◌, map, append-nil, append_assoc}
 use Rattle.std.proofs.Math.ListN.{length, take, drop, length-append}
-use Rattle.std.proofs.Math.Seq.{take-append_seam, drop-append_seam, drop-append-add}
+use Rattle.std.proofs.Math.Seq.{take-append_seam, drop-append_seam}
 use Rattle.rows.specs.Rows.{put}
 use Rattle.rows.specs.Slots.{upto}
 use Rattle.rows.specs.Laws.{put_lent, put_whole}
@@ -21,14 +21,13 @@ use Rattle.manifold_records.specs.Written.{zeros}
 use Rattle.contact_range.specs.Range.{stands}
 use Rattle.contact_range.specs.Recorded.{capacity_of}
 use Rattle.contact_update.specs.After.{graph_after}
-use Rattle.contact_update.specs.Contact.{update_of}
-use Rattle.contact_update.specs.OrderLaws.{graphAfterAll}
+use Rattle.contact_update.specs.OrderLaws.{graph_after_all}
 use Rattle.layout.specs.Shares.{shares_length}
 use Rattle.shares.specs.Shares.{workers_of, count_of, start_of, total_of, entry_at}
 use Rattle.update_pass.specs.BitsLaws.{length_part_bits, past_share}
 use Rattle.update_pass.specs.ListsLaws.{start_within, entries_split, distances_append, recycled_append, recycled_most, length_distances_after}
-use Rattle.update_pass.specs.Share.{AllListed, ShareReady, made, Taken, ShareTaken, SharesReady, AllTaken}
-use Rattle.update_pass.specs.Shared.{entries_of, first_of, share_of, bitsAfter, distancesAfter, recycledOf, workerBits, parts_of}
+use Rattle.update_pass.specs.Share.{AllListed, ShareReady, made, ShareTaken, AllTaken}
+use Rattle.update_pass.specs.Shared.{entries_of, first_of, share_of, bits_after, distances_after, recycled_of, worker_bits, parts_of}
 use Rattle.update_pass.specs.ShareLaws.{within}
 use Rattle.update_pass.specs.UpdatedAllLaws.{AllStand, after_ready, after_stands, after_all_capacity, unaffected}
 
@@ -40,22 +39,22 @@ module _ (u v : ℕ → Updated) where
   later : (id : ℕ) (ids : List ℕ) → Agree (id ∷ ids) → Agree ids
   later id ids e k l = e (suc k) (suc-le-suc l)
 
-  bits_agree : (bits ids : List ℕ) → Agree ids → bitsAfter u bits ids ≡ bitsAfter v bits ids
-  unfolding bitsAfter
+  bits_agree : (bits ids : List ℕ) → Agree ids → bits_after u bits ids ≡ bits_after v bits ids
+  unfolding bits_after
   bits_agree bits [] e = refl
   bits_agree bits (id ∷ ids) e =
       bits_agree (cond (u id).bit (marked bits id) bits) ids (later id ids e)
-      ∙ ap (λ (x : Updated). bitsAfter v (cond x.bit (marked bits id) bits) ids) (e zero (zero-lt-suc (length ids)))
+      ∙ ap (λ (x : Updated). bits_after v (cond x.bit (marked bits id) bits) ids) (e zero (zero-lt-suc (length ids)))
 
-  distances_agree : (ds ids : List ℕ) → Agree ids → distancesAfter u ds ids ≡ distancesAfter v ds ids
-  unfolding distancesAfter
+  distances_agree : (ds ids : List ℕ) → Agree ids → distances_after u ds ids ≡ distances_after v ds ids
+  unfolding distances_after
   distances_agree ds [] e = refl
   distances_agree ds (id ∷ ids) e =
       distances_agree (put ds id (float_word (u id).max_contact_distance ∷ [])) ids (later id ids e)
-      ∙ ap (λ (x : Updated). distancesAfter v (put ds id (float_word x.max_contact_distance ∷ [])) ids) (e zero (zero-lt-suc (length ids)))
+      ∙ ap (λ (x : Updated). distances_after v (put ds id (float_word x.max_contact_distance ∷ [])) ids) (e zero (zero-lt-suc (length ids)))
 
-  recycled_agree : (ids : List ℕ) → Agree ids → recycledOf u ids ≡ recycledOf v ids
-  unfolding recycledOf
+  recycled_agree : (ids : List ℕ) → Agree ids → recycled_of u ids ≡ recycled_of v ids
+  unfolding recycled_of
   recycled_agree [] e = refl
   recycled_agree (id ∷ ids) e = λ i. cond (is_recycled (e zero (zero-lt-suc (length ids)) i).way) 1 0 + recycled_agree ids (later id ids e) i
 
@@ -81,11 +80,11 @@ module _ (u : ℕ → Updated) (blocks : ℕ) (xs : List ℕ) where
   pub length_parts : (n : ℕ) → length (parts_of u blocks xs n) ≡ n * blocks
   unfolding parts_of
   length_parts zero = sym (zero-mul blocks)
-  length_parts (suc n) = length-append (parts_of u blocks xs n) (workerBits u blocks xs n) ∙ (λ i. length_parts n i + length_part_bits u blocks xs n i) ∙ sym (suc-mul n blocks)
+  length_parts (suc n) = length-append (parts_of u blocks xs n) (worker_bits u blocks xs n) ∙ (λ i. length_parts n i + length_part_bits u blocks xs n i) ∙ sym (suc-mul n blocks)
 
-  past_part : (w : ℕ) → workers_of xs ≤ w → workerBits u blocks xs w ≡ zeros blocks
-  unfolding workerBits bitsAfter
-  past_part w l = ap (bitsAfter u (zeros blocks)) (past_share u blocks xs w l)
+  past_part : (w : ℕ) → workers_of xs ≤ w → worker_bits u blocks xs w ≡ zeros blocks
+  unfolding worker_bits bits_after
+  past_part w l = ap (bits_after u (zeros blocks)) (past_share u blocks xs w l)
 
   past_parts : (d : ℕ) → parts_of u blocks xs (workers_of xs + d) ≡ parts_of u blocks xs (workers_of xs) ++ zeros (d * blocks)
   unfolding parts_of zeros
@@ -104,10 +103,10 @@ module _ (s : Settings) (colliders bodies proposals shares : List ℕ) where
   before w = map (entry_at shares) (upto (start_of shares w))
 
   pub record SoFar (w : ℕ) (g g' bits' ds' : List ℕ) (r : ℕ) : Type 0 where
-    pub graph : g' ≡ graphAfterAll s colliders bodies proposals g (before w)
+    pub graph : g' ≡ graph_after_all s colliders bodies proposals g (before w)
     pub bit : bits' ≡ parts_of (made s colliders bodies proposals shares g) (blocks_of (capacity_of g)) shares w ++ zeros ((8 - w) * blocks_of (capacity_of g))
-    pub distance : ds' ≡ distancesAfter (made s colliders bodies proposals shares g) (zeros (capacity_of g)) (before w)
-    pub recycled : r ≡ recycledOf (made s colliders bodies proposals shares g) (before w)
+    pub distance : ds' ≡ distances_after (made s colliders bodies proposals shares g) (zeros (capacity_of g)) (before w)
+    pub recycled : r ≡ recycled_of (made s colliders bodies proposals shares g) (before w)
 
   module _ {g : List ℕ} (a : AllListed s colliders bodies proposals shares g) where
     abbrev u : ℕ → Updated
@@ -117,12 +116,12 @@ module _ (s : Settings) (colliders bodies proposals shares : List ℕ) where
     blocks = blocks_of (capacity_of g)
 
     pub so_far_none : {bits ds : List ℕ} → bits ≡ zeros (8 * blocks) → ds ≡ zeros (capacity_of g) → SoFar 0 g g bits ds 0
-    unfolding start_of upto graphAfterAll parts_of distancesAfter recycledOf
+    unfolding start_of upto graph_after_all parts_of distances_after recycled_of
     so_far_none e f = record { graph = refl; bit = e; distance = f; recycled = refl }
 
     module _ (w : ℕ) (l : w < workers_of shares) where
       abbrev there : List ℕ
-      there = graphAfterAll s colliders bodies proposals g (before w)
+      there = graph_after_all s colliders bodies proposals g (before w)
 
       abbrev share : List ℕ
       share = first_of shares w (count_of shares w)
@@ -165,8 +164,8 @@ module _ (s : Settings) (colliders bodies proposals shares : List ℕ) where
           let h : j < start_of shares w = omega (arith, length_map_upto (entry_at shares) (start_of shares w)) in
           a.once j (start_of shares w + k) (omega arith) t (sym (get_d_map_upto (entry_at shares) (start_of shares w) j 0 h) ∙ q)))
 
-      all_append : (xs : List ℕ) (h : List ℕ) (ys : List ℕ) → graphAfterAll s colliders bodies proposals h (xs ++ ys) ≡ graphAfterAll s colliders bodies proposals (graphAfterAll s colliders bodies proposals h xs) ys
-      unfolding graphAfterAll
+      all_append : (xs : List ℕ) (h : List ℕ) (ys : List ℕ) → graph_after_all s colliders bodies proposals h (xs ++ ys) ≡ graph_after_all s colliders bodies proposals (graph_after_all s colliders bodies proposals h xs) ys
+      unfolding graph_after_all
       all_append [] h ys = refl
       all_append (x ∷ xs) h ys = all_append xs (graph_after s colliders bodies proposals h x) ys
 
@@ -203,13 +202,13 @@ module _ (s : Settings) (colliders bodies proposals shares : List ℕ) where
                   ap (λ (x : List ℕ). length x) t.distance ∙ length_distances_after u (zeros (capacity_of g)) (before w) ∙ length_zeros (capacity_of g) ∙ sym c;
             }
 
-        own_put : {own' : List ℕ} → own' ≡ bitsAfter u (zeros blocks) share
+        own_put : {own' : List ℕ} → own' ≡ bits_after u (zeros blocks) share
             → take from hb ++ (own' ++ drop n (drop from hb)) ≡ parts_of u blocks shares (w + 1) ++ zeros ((8 - (w + 1)) * blocks)
-        unfolding parts_of workerBits share_of
+        unfolding parts_of worker_bits share_of
         own_put {own'} e =
             (λ i. ((λ j. take (from_length j) (t.bit j)) ∙ take-append_seam (parts_of u blocks shares w) (zeros ((8 - w) * blocks))) i
-            ++ ((e ∙ ap (bitsAfter u (zeros blocks)) given_share) i ++ ((λ j. drop (n_length j) (dropped j)) ∙ drop-append_seam (zeros blocks) (zeros ((8 - suc w) * blocks))) i))
-            ∙ sym (append_assoc (parts_of u blocks shares w) (bitsAfter u (zeros blocks) (share_of shares w)) (zeros ((8 - suc w) * blocks)))
+            ++ ((e ∙ ap (bits_after u (zeros blocks)) given_share) i ++ ((λ j. drop (n_length j) (dropped j)) ∙ drop-append_seam (zeros blocks) (zeros ((8 - suc w) * blocks))) i))
+            ∙ sym (append_assoc (parts_of u blocks shares w) (bits_after u (zeros blocks) (share_of shares w)) (zeros ((8 - suc w) * blocks)))
             ∙ ap (λ (k : ℕ). parts_of u blocks shares k ++ zeros ((8 - k) * blocks)) (sym (add-one w))
           where
             given_share : share ≡ share_of shares w
@@ -224,15 +223,15 @@ module _ (s : Settings) (colliders bodies proposals shares : List ℕ) where
             λ k b. ap (λ (x : List ℕ). made s colliders bodies proposals shares x (get_or share k 0)) t.graph ∙ agree k b in
             record {
               graph =
-                  d.graph ∙ ap (λ (x : List ℕ). graphAfterAll s colliders bodies proposals x share) t.graph ∙ sym (all_append (before w) g share)
-                  ∙ ap (graphAfterAll s colliders bodies proposals g) (sym more);
-              bit = own_put (d.bit ∙ bits_agree (made s colliders bodies proposals shares h) u (take n (drop from hb)) share mine ∙ ap (λ (x : List ℕ). bitsAfter u x share) own_zeros);
+                  d.graph ∙ ap (λ (x : List ℕ). graph_after_all s colliders bodies proposals x share) t.graph ∙ sym (all_append (before w) g share)
+                  ∙ ap (graph_after_all s colliders bodies proposals g) (sym more);
+              bit = own_put (d.bit ∙ bits_agree (made s colliders bodies proposals shares h) u (take n (drop from hb)) share mine ∙ ap (λ (x : List ℕ). bits_after u x share) own_zeros);
               distance =
-                  d.distance ∙ distances_agree (made s colliders bodies proposals shares h) u hd share mine ∙ ap (λ (x : List ℕ). distancesAfter u x share) t.distance
-                  ∙ sym (distances_append u (zeros (capacity_of g)) (before w) share) ∙ ap (distancesAfter u (zeros (capacity_of g))) (sym more);
+                  d.distance ∙ distances_agree (made s colliders bodies proposals shares h) u hd share mine ∙ ap (λ (x : List ℕ). distances_after u x share) t.distance
+                  ∙ sym (distances_append u (zeros (capacity_of g)) (before w) share) ∙ ap (distances_after u (zeros (capacity_of g))) (sym more);
               recycled =
                   (λ i. t.recycled i + (d.recycled ∙ recycled_agree (made s colliders bodies proposals shares h) u share mine) i)
-                  ∙ sym (recycled_append u (before w) share) ∙ ap (recycledOf u) (sym more);
+                  ∙ sym (recycled_append u (before w) share) ∙ ap (recycled_of u) (sym more);
             }
 
     pub so_far_all : (w : ℕ) {h hb hd : List ℕ} {r : ℕ} → w ≡ workers_of shares → SoFar w g h hb hd r → AllTaken s colliders bodies proposals shares g h hb hd r

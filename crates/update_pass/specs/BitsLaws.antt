@@ -5,7 +5,7 @@ use Rattle.std.specs.Prelude.{◌≡◌, refl, Bool, true, ◌&&◌, ◌||◌, l
 use Rattle.std.proofs.Math.Path.{sym, ap, subst}
 use Rattle.std.proofs.Math.Bool.{false, cond, not, or-true, or-false}
 use mathlib.Core.List.{List, [], ◌∷◌, ◌++◌, map, append-nil}
-use borrow.Author.Tests.{eqb-true, eqb-false, lt-ltb, le-ltb, leb-true, not_true}
+use borrow.Author.Tests.{eqb-true, eqb-false, lt-ltb, le-ltb, leb-true, not-true}
 use Rattle.std.proofs.Math.Dec.{eqb, ltb, leb}
 use Rattle.rows.specs.Slots.{upto, Listed, Distinct, AllBelow, SameMembers}
 use Rattle.rules.specs.Numbers.{every}
@@ -24,7 +24,7 @@ use Rattle.contact_range.specs.Recorded.{capacity_of, listed_count, listed_at}
 use Rattle.shares.specs.Shares.{workers_of, count_of, start_of, total_of, entry_at, times, counts_fit, entries_stand, active_once, entries_once, shares_fit}
 use Rattle.shares.specs.SharesLaws.{active_linear}
 use Rattle.update_pass.specs.ListsLaws.{start_within, entries_split, length_bit, length_bits_after, listed_in, listed_in_append, same_listed}
-use Rattle.update_pass.specs.Shared.{active_of, entries_of, first_of, share_of, bitsAfter, workerBits, joinedOf, standingIds}
+use Rattle.update_pass.specs.Shared.{active_of, entries_of, first_of, share_of, bits_after, worker_bits, joined_of, standing_ids}
 
 -- ---- a row by number
 module _ (f : ℕ → ℕ) (n : ℕ) where
@@ -102,7 +102,7 @@ module _ (xs g : List ℕ) (c : Checked g) (fit : shares_fit xs g ≡ true) wher
   entry_apart j k b d z =
       let o = first_of_lem (entries_once xs) (eqb (total_of xs) (listed_count g)) (sym (active_linear xs g c stand_part) ∙ once_part) in
       let t = every_at (λ i. not (eqb (entry_at xs i) (entry_at xs k))) k j (every_at (λ i. every (λ h. not (eqb (entry_at xs h) (entry_at xs i))) i) (total_of xs) k o d) b in
-      eqb-false (entry_at xs j) (entry_at xs k) (not_true (eqb (entry_at xs j) (entry_at xs k)) t) z
+      eqb-false (entry_at xs j) (entry_at xs k) (not-true (eqb (entry_at xs j) (entry_at xs k)) t) z
 
   entry_of : (p : ℕ) → p < listed_count g → (j : ℕ) × (j < total_of xs) × (entry_at xs j ≡ listed_at g p)
   unfolding active_once
@@ -176,8 +176,8 @@ module _ (u : ℕ → Updated) where
       go false e true s = bit_marked bits id j l ∙ ap (λ (t : Bool). cond t true (bit_at bits j)) e ∙ sym (or-false (bit_at bits j))
       go false e false s = sym (or-false (bit_at bits j))
 
-  pub bit_after : (bits ids : List ℕ) (j : ℕ) → AllBelow (64 * length bits) ids → bit_at (bitsAfter u bits ids) j ≡ (bit_at bits j || (listed_in ids j && (u j).bit))
-  unfolding bitsAfter listed_in
+  pub bit_after : (bits ids : List ℕ) (j : ℕ) → AllBelow (64 * length bits) ids → bit_at (bits_after u bits ids) j ≡ (bit_at bits j || (listed_in ids j && (u j).bit))
+  unfolding bits_after listed_in
   bit_after bits [] j b = sym (or-false (bit_at bits j))
   bit_after bits (id ∷ ids) j b =
       let next = cond (u id).bit (marked bits id) bits in
@@ -186,28 +186,28 @@ module _ (u : ℕ → Updated) where
       ∙ found_among (bit_at bits j) (eqb id j) (listed_in ids j) (u j).bit
 
   -- over words that were 0
-  bit_over_zeros : (blocks : ℕ) (ids : List ℕ) (j : ℕ) → AllBelow (64 * blocks) ids → bit_at (bitsAfter u (zeros blocks) ids) j ≡ (listed_in ids j && (u j).bit)
+  bit_over_zeros : (blocks : ℕ) (ids : List ℕ) (j : ℕ) → AllBelow (64 * blocks) ids → bit_at (bits_after u (zeros blocks) ids) j ≡ (listed_in ids j && (u j).bit)
   bit_over_zeros blocks ids j b =
       bit_after (zeros blocks) ids j (subst (λ (n : ℕ). AllBelow (64 * n) ids) (sym (length_zeros blocks)) b)
       ∙ ap (λ (t : Bool). t || (listed_in ids j && (u j).bit)) (bit_zeros blocks j)
 
   module _ (blocks : ℕ) (xs : List ℕ) where
     -- the bit of a contact in a worker's part
-    pub part_bits : (w id : ℕ) → AllBelow (64 * blocks) (share_of xs w) → bit_at (workerBits u blocks xs w) id ≡ (listed_in (share_of xs w) id && (u id).bit)
-    unfolding workerBits
+    pub part_bits : (w id : ℕ) → AllBelow (64 * blocks) (share_of xs w) → bit_at (worker_bits u blocks xs w) id ≡ (listed_in (share_of xs w) id && (u id).bit)
+    unfolding worker_bits
     part_bits w id b = bit_over_zeros blocks (share_of xs w) id b
 
-    pub length_part_bits : (w : ℕ) → length (workerBits u blocks xs w) ≡ blocks
-    unfolding workerBits
+    pub length_part_bits : (w : ℕ) → length (worker_bits u blocks xs w) ≡ blocks
+    unfolding worker_bits
     length_part_bits w = length_bits_after u (zeros blocks) (share_of xs w) ∙ length_zeros blocks
 
-    pub length_joined_bits : (n : ℕ) → length (joinedOf u blocks xs n) ≡ blocks
-    unfolding joinedOf
+    pub length_joined_bits : (n : ℕ) → length (joined_of u blocks xs n) ≡ blocks
+    unfolding joined_of
     length_joined_bits zero = length_zeros blocks
     length_joined_bits (suc n) =
         let l = length_joined_bits n in
         let m = length_part_bits n in
-        length_joined (joinedOf u blocks xs n) (workerBits u blocks xs n) (omega arith) ∙ l
+        length_joined (joined_of u blocks xs n) (worker_bits u blocks xs n) (omega arith) ∙ l
 
     -- a worker that is given, and one that is not
     given_share : (w : ℕ) → w < workers_of xs → share_of xs w ≡ first_of xs w (count_of xs w)
@@ -218,14 +218,14 @@ module _ (u : ℕ → Updated) where
     unfolding share_of
     past_share w l = ap (λ (t : Bool). cond t (first_of xs w (count_of xs w)) []) (le-ltb w (workers_of xs) l)
 
-    past_bits : (w j : ℕ) → workers_of xs ≤ w → bit_at (workerBits u blocks xs w) j ≡ false
-    unfolding workerBits bitsAfter
-    past_bits w j l = ap (λ (ids : List ℕ). bit_at (bitsAfter u (zeros blocks) ids) j) (past_share w l) ∙ bit_zeros blocks j
+    past_bits : (w j : ℕ) → workers_of xs ≤ w → bit_at (worker_bits u blocks xs w) j ≡ false
+    unfolding worker_bits bits_after
+    past_bits w j l = ap (λ (ids : List ℕ). bit_at (bits_after u (zeros blocks) ids) j) (past_share w l) ∙ bit_zeros blocks j
 
     -- ---- the parts joined
     -- the contacts of the first n workers
-    abbrev firstShares : ℕ → List ℕ
-    firstShares n = map (entry_at xs) (upto (start_of xs n))
+    abbrev first_shares : ℕ → List ℕ
+    first_shares n = map (entry_at xs) (upto (start_of xs n))
 
     module _ (below : (k : ℕ) → k < total_of xs → entry_at xs k < 64 * blocks) where
       share_below : (w : ℕ) → w < workers_of xs → AllBelow (64 * blocks) (share_of xs w)
@@ -235,36 +235,36 @@ module _ (u : ℕ → Updated) where
           subst (AllBelow (64 * blocks)) (sym (given_share w l))
           (row_below (λ j. entry_at xs (start_of xs w + j)) (count_of xs w) (64 * blocks) (λ k h. below (start_of xs w + k) (omega arith)))
 
-      given_bits : (w j : ℕ) → w < workers_of xs → bit_at (workerBits u blocks xs w) j ≡ (listed_in (first_of xs w (count_of xs w)) j && (u j).bit)
+      given_bits : (w j : ℕ) → w < workers_of xs → bit_at (worker_bits u blocks xs w) j ≡ (listed_in (first_of xs w (count_of xs w)) j && (u j).bit)
       given_bits w j l = part_bits w j (share_below w l) ∙ ap (λ (ids : List ℕ). listed_in ids j && (u j).bit) (given_share w l)
 
-      joined_given : (n j : ℕ) → n ≤ workers_of xs → bit_at (joinedOf u blocks xs n) j ≡ (listed_in (firstShares n) j && (u j).bit)
-      unfolding joinedOf start_of upto listed_in
+      joined_given : (n j : ℕ) → n ≤ workers_of xs → bit_at (joined_of u blocks xs n) j ≡ (listed_in (first_shares n) j && (u j).bit)
+      unfolding joined_of start_of upto listed_in
       joined_given zero j l = bit_zeros blocks j
       joined_given (suc n) j l =
           let own = first_of xs n (count_of xs n) in
           let c = (u j).bit in
           let before = joined_given n j (omega arith) in
           let part = given_bits n j l in
-          bit_joined (joinedOf u blocks xs n) (workerBits u blocks xs n) j ∙ (λ i. before i || part i)
-          ∙ found_among false (listed_in (firstShares n) j) (listed_in own j) c
-          ∙ ap (λ (t : Bool). t && c) (sym (ap (λ (ids : List ℕ). listed_in ids j) (entries_split xs n) ∙ listed_in_append (firstShares n) own j))
+          bit_joined (joined_of u blocks xs n) (worker_bits u blocks xs n) j ∙ (λ i. before i || part i)
+          ∙ found_among false (listed_in (first_shares n) j) (listed_in own j) c
+          ∙ ap (λ (t : Bool). t && c) (sym (ap (λ (ids : List ℕ). listed_in ids j) (entries_split xs n) ∙ listed_in_append (first_shares n) own j))
 
-      joined_past : (d j : ℕ) → bit_at (joinedOf u blocks xs (workers_of xs + d)) j ≡ (listed_in (entries_of xs) j && (u j).bit)
-      unfolding joinedOf entries_of
-      joined_past zero j = ap (λ (n : ℕ). bit_at (joinedOf u blocks xs n) j) (add-zero (workers_of xs)) ∙ joined_given (workers_of xs) j (omega arith)
+      joined_past : (d j : ℕ) → bit_at (joined_of u blocks xs (workers_of xs + d)) j ≡ (listed_in (entries_of xs) j && (u j).bit)
+      unfolding joined_of entries_of
+      joined_past zero j = ap (λ (n : ℕ). bit_at (joined_of u blocks xs n) j) (add-zero (workers_of xs)) ∙ joined_given (workers_of xs) j (omega arith)
       joined_past (suc d) j =
           let n = workers_of xs + d in
           let before = joined_past d j in
           let part = past_bits n j (omega arith) in
-          ap (λ (m : ℕ). bit_at (joinedOf u blocks xs m) j) (add-suc (workers_of xs) d) ∙ bit_joined (joinedOf u blocks xs n) (workerBits u blocks xs n) j
+          ap (λ (m : ℕ). bit_at (joined_of u blocks xs m) j) (add-suc (workers_of xs) d) ∙ bit_joined (joined_of u blocks xs n) (worker_bits u blocks xs n) j
           ∙ (λ i. before i || part i) ∙ or-false (listed_in (entries_of xs) j && (u j).bit)
 
   -- a bit of the parts of eight workers joined
   pub joined_bits : (blocks : ℕ) (xs : List ℕ) (j : ℕ) → workers_of xs ≤ 8 → ((k : ℕ) → k < total_of xs → entry_at xs k < 64 * blocks)
-      → bit_at (joinedOf u blocks xs 8) j ≡ (listed_in (entries_of xs) j && (u j).bit)
+      → bit_at (joined_of u blocks xs 8) j ≡ (listed_in (entries_of xs) j && (u j).bit)
   joined_bits blocks xs j l below =
-      ap (λ (n : ℕ). bit_at (joinedOf u blocks xs n) j) (let z : 8 ≡ workers_of xs + (8 - workers_of xs) = omega arith in z) ∙ joined_past blocks xs below (8 - workers_of xs) j
+      ap (λ (n : ℕ). bit_at (joined_of u blocks xs n) j) (let z : 8 ≡ workers_of xs + (8 - workers_of xs) = omega arith in z) ∙ joined_past blocks xs below (8 - workers_of xs) j
 
   -- ---- the set bits
   -- of a range, only numbers below n pass
@@ -277,7 +277,7 @@ module _ (u : ℕ → Updated) where
 
   module _ (xs g : List ℕ) (c : Checked g) (fit : shares_fit xs g ≡ true) where
     abbrev words : List ℕ
-    words = joinedOf u (blocks_of (capacity_of g)) xs 8
+    words = joined_of u (blocks_of (capacity_of g)) xs 8
 
     entry_room : (k : ℕ) → k < total_of xs → entry_at xs k < 64 * blocks_of (capacity_of g)
     entry_room k l = omega (arith, standing_below c.range (entry_at xs k) (entry_stands xs g c fit k l), (blocks_hold (capacity_of g)).0)
@@ -295,8 +295,8 @@ module _ (u : ℕ → Updated) where
         go false e = refl
 
     -- the workers' bits, joined, are the contacts whose status bit stands
-    pub standing_set : set_bits (joinedOf u (blocks_of (capacity_of g)) xs 8) ≡ standingIds u g
-    unfolding set_bits standingIds
+    pub standing_set : set_bits (joined_of u (blocks_of (capacity_of g)) xs 8) ≡ standing_ids u g
+    unfolding set_bits standing_ids
     standing_set =
         ap (λ (n : ℕ). numbers_with (bit_at words) 0 (64 * n)) (length_joined_bits (blocks_of (capacity_of g)) xs 8)
         ∙ numbers_short (bit_at words) (λ id. stands g id && (u id).bit) (capacity_of g) (64 * blocks_of (capacity_of g)) (blocks_hold (capacity_of g)).0 standing_bit not_past

@@ -19,35 +19,35 @@ use Rattle.contact_update.specs.ContactLaws.{lent_part}
 use Rattle.update_pass.specs.AllLaws.{length_parts}
 use Rattle.update_pass.specs.BitsLaws.{length_part_bits}
 use Rattle.update_pass.specs.Share.{joined_parts}
-use Rattle.update_pass.specs.Shared.{workerBits, parts_of, joinedOf}
+use Rattle.update_pass.specs.Shared.{worker_bits, parts_of, joined_of}
 
 module _ (u : ℕ → Updated) (blocks : ℕ) (xs : List ℕ) where
   -- word i of worker w's part
-  pub part_word : (n w i : ℕ) → w < n → i < blocks → get_or (parts_of u blocks xs n) (w * blocks + i) 0 ≡ get_or (workerBits u blocks xs w) i 0
+  pub part_word : (n w i : ℕ) → w < n → i < blocks → get_or (parts_of u blocks xs n) (w * blocks + i) 0 ≡ get_or (worker_bits u blocks xs w) i 0
   unfolding parts_of
   part_word zero w i l b = absurd (not-suc-le-zero l)
   part_word (suc n) w i l b =
       elim (eq-or-lt_of_le (let z : w ≤ n = omega arith in z)) [
         | inl q ↦
             ap (λ (k : ℕ). get_or (parts_of u blocks xs (suc n)) (k + i) 0) (ap (λ (k : ℕ). k * blocks) q ∙ sym (length_parts u blocks xs n))
-            ∙ get_or-append-add (parts_of u blocks xs n) (workerBits u blocks xs n) i 0 ∙ ap (λ (k : ℕ). get_or (workerBits u blocks xs k) i 0) (sym q)
-        | inr h ↦ get_or-append (parts_of u blocks xs n) (workerBits u blocks xs n) 0 (w * blocks + i) (before h) ∙ part_word n w i h b
+            ∙ get_or-append-add (parts_of u blocks xs n) (worker_bits u blocks xs n) i 0 ∙ ap (λ (k : ℕ). get_or (worker_bits u blocks xs k) i 0) (sym q)
+        | inr h ↦ get_or-append (parts_of u blocks xs n) (worker_bits u blocks xs n) 0 (w * blocks + i) (before h) ∙ part_word n w i h b
       ]
     where
       before : w < n → w * blocks + i < length (parts_of u blocks xs n)
       before h = let s = suc-mul w blocks in let m : suc w * blocks ≤ n * blocks = mul-le-mul_right blocks h in omega (arith, length_parts u blocks xs n)
 
-  pub part_of : (n w : ℕ) → w < n → part (parts_of u blocks xs n) (w * blocks) blocks ≡ workerBits u blocks xs w
+  pub part_of : (n w : ℕ) → w < n → part (parts_of u blocks xs n) (w * blocks) blocks ≡ worker_bits u blocks xs w
   part_of n w l =
       let room : w * blocks + blocks ≤ length (parts_of u blocks xs n) =
       let m : suc w * blocks ≤ n * blocks = mul-le-mul_right blocks l in omega (arith, suc-mul w blocks, length_parts u blocks xs n) in
       let size = length_part (parts_of u blocks xs n) (w * blocks) blocks room in
-      ext_get_or 0 (part (parts_of u blocks xs n) (w * blocks) blocks) (workerBits u blocks xs w) (size ∙ sym (length_part_bits u blocks xs w))
+      ext_get_or 0 (part (parts_of u blocks xs n) (w * blocks) blocks) (worker_bits u blocks xs w) (size ∙ sym (length_part_bits u blocks xs w))
       (λ i b. let h : i < blocks = omega arith in get_d_part (parts_of u blocks xs n) (w * blocks) blocks i 0 h ∙ part_word n w i l h)
 
   -- the parts that the workers leave, joined
-  pub join_parts : (m n : ℕ) → n ≤ m → joined_parts blocks (parts_of u blocks xs m) n ≡ joinedOf u blocks xs n
-  unfolding joined_parts joinedOf
+  pub join_parts : (m n : ℕ) → n ≤ m → joined_parts blocks (parts_of u blocks xs m) n ≡ joined_of u blocks xs n
+  unfolding joined_parts joined_of
   join_parts m zero l = refl
   join_parts m (suc n) l = λ i. joined (join_parts m n (omega arith) i) (part_of m n l i)
 

@@ -23,14 +23,14 @@ use Rattle.contact_range.specs.Range.{stands}
 use Rattle.contact_range.specs.Recorded.{capacity_of}
 use Rattle.shares.specs.CountingLaws.{sum}
 use Rattle.shares.specs.Shares.{workers_of, count_of, start_of, total_of, entry_at}
-use Rattle.update_pass.specs.Shared.{bitsAfter, distancesAfter, distancesOf, recycledOf, first_of}
+use Rattle.update_pass.specs.Shared.{bits_after, distances_after, distances_of, recycled_of, first_of}
 
 -- the numbers from a on, behind those below it
-pub upto-split {ℓ} : {A : Type ℓ} (f : ℕ → A) (a b : ℕ) → map f (upto (a + b)) ≡ map f (upto a) ++ map (λ j. f (a + j)) (upto b)
+pub upto_split {ℓ} : {A : Type ℓ} (f : ℕ → A) (a b : ℕ) → map f (upto (a + b)) ≡ map f (upto a) ++ map (λ j. f (a + j)) (upto b)
 unfolding upto
-upto-split {A} f a zero = ap (λ (n : ℕ). map f (upto n)) (add-zero a) ∙ sym (append-nil (map f (upto a)))
-upto-split {A} f a (suc b) =
-    ap (λ (n : ℕ). map f (upto n)) (add-suc a b) ∙ map-append f (upto (a + b)) ((a + b) ∷ []) ∙ ap (λ (l : List A). l ++ f (a + b) ∷ []) (upto-split f a b)
+upto_split {A} f a zero = ap (λ (n : ℕ). map f (upto n)) (add-zero a) ∙ sym (append-nil (map f (upto a)))
+upto_split {A} f a (suc b) =
+    ap (λ (n : ℕ). map f (upto n)) (add-suc a b) ∙ map-append f (upto (a + b)) ((a + b) ∷ []) ∙ ap (λ (l : List A). l ++ f (a + b) ∷ []) (upto_split f a b)
     ∙ append_assoc (map f (upto a)) (map (λ j. f (a + j)) (upto b)) (f (a + b) ∷ [])
     ∙ ap (λ (l : List A). map f (upto a) ++ l) (sym (map-append (λ j. f (a + j)) (upto b) (b ∷ [])))
 
@@ -50,37 +50,37 @@ share_room xs w l = start_within xs (suc w) l
 -- the entries of the workers up to w are those before it, and its own
 pub entries_split : (xs : List ℕ) (w : ℕ) → map (entry_at xs) (upto (start_of xs (suc w))) ≡ map (entry_at xs) (upto (start_of xs w)) ++ first_of xs w (count_of xs w)
 unfolding start_of
-entries_split xs w = upto-split (entry_at xs) (start_of xs w) (count_of xs w)
+entries_split xs w = upto_split (entry_at xs) (start_of xs w) (count_of xs w)
 
 module _ (u : ℕ → Updated) where
   -- ---- one after another
-  pub bits_append : (bits a b : List ℕ) → bitsAfter u bits (a ++ b) ≡ bitsAfter u (bitsAfter u bits a) b
-  unfolding bitsAfter
+  pub bits_append : (bits a b : List ℕ) → bits_after u bits (a ++ b) ≡ bits_after u (bits_after u bits a) b
+  unfolding bits_after
   bits_append bits [] b = refl
   bits_append bits (id ∷ a) b = bits_append (cond (u id).bit (marked bits id) bits) a b
 
-  pub distances_append : (ds a b : List ℕ) → distancesAfter u ds (a ++ b) ≡ distancesAfter u (distancesAfter u ds a) b
-  unfolding distancesAfter
+  pub distances_append : (ds a b : List ℕ) → distances_after u ds (a ++ b) ≡ distances_after u (distances_after u ds a) b
+  unfolding distances_after
   distances_append ds [] b = refl
   distances_append ds (id ∷ a) b = distances_append (put ds id (float_word (u id).max_contact_distance ∷ [])) a b
 
-  pub recycled_append : (a b : List ℕ) → recycledOf u (a ++ b) ≡ recycledOf u a + recycledOf u b
-  unfolding recycledOf
-  recycled_append [] b = sym (zero-add (recycledOf u b))
+  pub recycled_append : (a b : List ℕ) → recycled_of u (a ++ b) ≡ recycled_of u a + recycled_of u b
+  unfolding recycled_of
+  recycled_append [] b = sym (zero-add (recycled_of u b))
   recycled_append (id ∷ a) b = let e = recycled_append a b in omega arith
 
   -- ---- one contact more
-  pub bits_next : (bits ids : List ℕ) (id : ℕ) → bitsAfter u bits (ids ++ id ∷ []) ≡ cond (u id).bit (marked (bitsAfter u bits ids) id) (bitsAfter u bits ids)
-  unfolding bitsAfter
+  pub bits_next : (bits ids : List ℕ) (id : ℕ) → bits_after u bits (ids ++ id ∷ []) ≡ cond (u id).bit (marked (bits_after u bits ids) id) (bits_after u bits ids)
+  unfolding bits_after
   bits_next bits ids id = bits_append bits ids (id ∷ [])
 
-  pub distances_next : (ds ids : List ℕ) (id : ℕ) → distancesAfter u ds (ids ++ id ∷ []) ≡ put (distancesAfter u ds ids) id (float_word (u id).max_contact_distance ∷ [])
-  unfolding distancesAfter
+  pub distances_next : (ds ids : List ℕ) (id : ℕ) → distances_after u ds (ids ++ id ∷ []) ≡ put (distances_after u ds ids) id (float_word (u id).max_contact_distance ∷ [])
+  unfolding distances_after
   distances_next ds ids id = distances_append ds ids (id ∷ [])
 
-  pub recycled_next : (ids : List ℕ) (id : ℕ) → recycledOf u (ids ++ id ∷ []) ≡ recycledOf u ids + cond (is_recycled (u id).way) 1 0
-  unfolding recycledOf
-  recycled_next ids id = recycled_append ids (id ∷ []) ∙ ap (λ (n : ℕ). recycledOf u ids + n) (add-zero (cond (is_recycled (u id).way) 1 0))
+  pub recycled_next : (ids : List ℕ) (id : ℕ) → recycled_of u (ids ++ id ∷ []) ≡ recycled_of u ids + cond (is_recycled (u id).way) 1 0
+  unfolding recycled_of
+  recycled_next ids id = recycled_append ids (id ∷ []) ∙ ap (λ (n : ℕ). recycled_of u ids + n) (add-zero (cond (is_recycled (u id).way) 1 0))
 
   -- ---- lengths and sizes
   pub length_bit : (bits : List ℕ) (id : ℕ) → length (cond (u id).bit (marked bits id) bits) ≡ length bits
@@ -90,24 +90,24 @@ module _ (u : ℕ → Updated) where
       go true = length_marked bits id
       go false = refl
 
-  pub length_bits_after : (bits ids : List ℕ) → length (bitsAfter u bits ids) ≡ length bits
-  unfolding bitsAfter
+  pub length_bits_after : (bits ids : List ℕ) → length (bits_after u bits ids) ≡ length bits
+  unfolding bits_after
   length_bits_after bits [] = refl
   length_bits_after bits (id ∷ ids) = length_bits_after (cond (u id).bit (marked bits id) bits) ids ∙ length_bit bits id
 
-  pub length_distances_after : (ds ids : List ℕ) → length (distancesAfter u ds ids) ≡ length ds
-  unfolding distancesAfter
+  pub length_distances_after : (ds ids : List ℕ) → length (distances_after u ds ids) ≡ length ds
+  unfolding distances_after
   length_distances_after ds [] = refl
   length_distances_after ds (id ∷ ids) =
       let ws = float_word (u id).max_contact_distance ∷ [] in
       length_distances_after (put ds id ws) ids ∙ length_put ds id ws
 
-  pub recycled_most : (ids : List ℕ) → recycledOf u ids ≤ length ids
-  unfolding recycledOf
+  pub recycled_most : (ids : List ℕ) → recycled_of u ids ≤ length ids
+  unfolding recycled_of
   recycled_most [] = omega arith
   recycled_most (id ∷ ids) = go (is_recycled (u id).way) (recycled_most ids)
     where
-      go : (b : Bool) → recycledOf u ids ≤ length ids → cond b 1 0 + recycledOf u ids ≤ suc (length ids)
+      go : (b : Bool) → recycled_of u ids ≤ length ids → cond b 1 0 + recycled_of u ids ≤ suc (length ids)
       go true l = omega arith
       go false l = omega arith
 
@@ -195,8 +195,8 @@ module _ (u : ℕ → Updated) where
   unfolding listed_in
   weighed_rest id ids k n = ap (λ (b : Bool). cond (b || listed_in ids k) (weight k) 0) (ne_eqb id k (λ e. n (sym e)))
 
-  recycled_sum : (n : ℕ) (ids : List ℕ) → AllBelow n ids → Distinct ids → recycledOf u ids ≡ sum (weighed ids) n
-  unfolding recycledOf listed_in
+  recycled_sum : (n : ℕ) (ids : List ℕ) → AllBelow n ids → Distinct ids → recycled_of u ids ≡ sum (weighed ids) n
+  unfolding recycled_of listed_in
   recycled_sum n [] b d = sym (sum_zero n)
   recycled_sum n (id ∷ ids) b d =
       let rest = recycled_sum n ids (λ k l. b (suc k) (suc-le-suc l)) (λ j k l m. d (suc j) (suc k) (suc-le-suc l) (suc-le-suc m)) in
@@ -205,36 +205,36 @@ module _ (u : ℕ → Updated) where
       ∙ sym (sum_more (weighed (id ∷ ids)) (weighed ids) n id (weight id) (b zero (zero-lt-suc (length ids))) (weighed_first id ids fresh) (weighed_rest id ids))
 
   -- two lists of the same contacts, each once
-  pub recycled_any : (n : ℕ) (a b : List ℕ) → AllBelow n a → AllBelow n b → Distinct a → Distinct b → SameMembers a b → recycledOf u a ≡ recycledOf u b
+  pub recycled_any : (n : ℕ) (a b : List ℕ) → AllBelow n a → AllBelow n b → Distinct a → Distinct b → SameMembers a b → recycled_of u a ≡ recycled_of u b
   recycled_any n a b p q d e m =
       let same : (k : ℕ) → listed_in a k ≡ listed_in b k = same_listed (listed_in b) a (λ i l. in_listed b i (m.0 i l)) (λ i t. m.1 i (listed_in_lem b i t)) in
       recycled_sum n a p d ∙ sum_same (weighed a) (weighed b) n (λ k l. ap (λ (t : Bool). cond t (weight k) 0) (same k)) ∙ sym (recycled_sum n b q e)
 
   -- ---- the distances
-  abbrev distanceWord : ℕ → ℕ
-  distanceWord id = float_word (u id).max_contact_distance
+  abbrev distance_word : ℕ → ℕ
+  distance_word id = float_word (u id).max_contact_distance
 
-  distance_put : (ds : List ℕ) (id k : ℕ) → id < length ds → get_or (put ds id (distanceWord id ∷ [])) k 0 ≡ cond (eqb id k) (distanceWord k) (get_or ds k 0)
+  distance_put : (ds : List ℕ) (id k : ℕ) → id < length ds → get_or (put ds id (distance_word id ∷ [])) k 0 ≡ cond (eqb id k) (distance_word k) (get_or ds k 0)
   distance_put ds id k l = go (eqb id k) refl
     where
-      go : (b : Bool) → eqb id k ≡ b → get_or (put ds id (distanceWord id ∷ [])) k 0 ≡ cond b (distanceWord k) (get_or ds k 0)
+      go : (b : Bool) → eqb id k ≡ b → get_or (put ds id (distance_word id ∷ [])) k 0 ≡ cond b (distance_word k) (get_or ds k 0)
       go true e =
-          subst (λ (j : ℕ). get_or (put ds id (distanceWord id ∷ [])) j 0 ≡ distanceWord j) (eqb-true id k e)
-          (ap (λ (r : List ℕ). get_or r id 0) (sym (put_one ds id (distanceWord id))) ∙ get_or-set_same ds id (distanceWord id) 0 l)
+          subst (λ (j : ℕ). get_or (put ds id (distance_word id ∷ [])) j 0 ≡ distance_word j) (eqb-true id k e)
+          (ap (λ (r : List ℕ). get_or r id 0) (sym (put_one ds id (distance_word id))) ∙ get_or-set_same ds id (distance_word id) 0 l)
       go false e =
-          ap (λ (r : List ℕ). get_or r k 0) (sym (put_one ds id (distanceWord id))) ∙ get_or-set_other ds id k (distanceWord id) 0 (λ q. eqb-false id k e (sym q))
+          ap (λ (r : List ℕ). get_or r k 0) (sym (put_one ds id (distance_word id))) ∙ get_or-set_other ds id k (distance_word id) 0 (λ q. eqb-false id k e (sym q))
 
   -- the distance of a contact of the list is stored at its id, and any other is as it was
-  pub distance_after : (ds ids : List ℕ) (k : ℕ) → AllBelow (length ds) ids → get_or (distancesAfter u ds ids) k 0 ≡ cond (listed_in ids k) (distanceWord k) (get_or ds k 0)
-  unfolding distancesAfter listed_in
+  pub distance_after : (ds ids : List ℕ) (k : ℕ) → AllBelow (length ds) ids → get_or (distances_after u ds ids) k 0 ≡ cond (listed_in ids k) (distance_word k) (get_or ds k 0)
+  unfolding distances_after listed_in
   distance_after ds [] k b = refl
   distance_after ds (id ∷ ids) k b =
-      let next = put ds id (distanceWord id ∷ []) in
-      let size : length next ≡ length ds = length_put ds id (distanceWord id ∷ []) in
+      let next = put ds id (distance_word id ∷ []) in
+      let size : length next ≡ length ds = length_put ds id (distance_word id ∷ []) in
       distance_after next ids k (λ j l. omega (arith, b (suc j) (suc-le-suc l), size))
-      ∙ ap (cond (listed_in ids k) (distanceWord k)) (distance_put ds id k (b zero (zero-lt-suc (length ids)))) ∙ either (listed_in ids k) (eqb id k)
+      ∙ ap (cond (listed_in ids k) (distance_word k)) (distance_put ds id k (b zero (zero-lt-suc (length ids)))) ∙ either (listed_in ids k) (eqb id k)
     where
-      either : (s t : Bool) → cond s (distanceWord k) (cond t (distanceWord k) (get_or ds k 0)) ≡ cond (t || s) (distanceWord k) (get_or ds k 0)
+      either : (s t : Bool) → cond s (distance_word k) (cond t (distance_word k) (get_or ds k 0)) ≡ cond (t || s) (distance_word k) (get_or ds k 0)
       either true true = refl
       either true false = refl
       either false true = refl
@@ -242,13 +242,13 @@ module _ (u : ℕ → Updated) where
 
   -- the distances of all contacts, in any order, over words that were 0
   pub distances_any : (g : List ℕ) (ds ids : List ℕ) → length ds ≡ capacity_of g → ((k : ℕ) → get_or ds k 0 ≡ 0) → AllBelow (capacity_of g) ids → Distinct ids
-      → ((id : ℕ) → Listed ids id → stands g id ≡ true) → ((id : ℕ) → stands g id ≡ true → Listed ids id) → distancesAfter u ds ids ≡ distancesOf u g
-  unfolding distancesOf
+      → ((id : ℕ) → Listed ids id → stands g id ≡ true) → ((id : ℕ) → stands g id ≡ true → Listed ids id) → distances_after u ds ids ≡ distances_of u g
+  unfolding distances_of
   distances_any g ds ids e z b d f h =
       let n = capacity_of g in
-      let word : ℕ → ℕ = λ id. cond (stands g id) (distanceWord id) 0 in
-      let size : length (distancesAfter u ds ids) ≡ n = length_distances_after u ds ids ∙ e in
-      ext_get_or 0 (distancesAfter u ds ids) (map word (upto n)) (size ∙ sym (length_map_upto word n))
+      let word : ℕ → ℕ = λ id. cond (stands g id) (distance_word id) 0 in
+      let size : length (distances_after u ds ids) ≡ n = length_distances_after u ds ids ∙ e in
+      ext_get_or 0 (distances_after u ds ids) (map word (upto n)) (size ∙ sym (length_map_upto word n))
       (λ k l. distance_after ds ids k (subst (λ (m : ℕ). AllBelow m ids) (sym e) b)
-      ∙ ap (cond (listed_in ids k) (distanceWord k)) (z k) ∙ ap (λ (t : Bool). cond t (distanceWord k) 0) (same_listed (stands g) ids f h k)
+      ∙ ap (cond (listed_in ids k) (distance_word k)) (z k) ∙ ap (λ (t : Bool). cond t (distance_word k) 0) (same_listed (stands g) ids f h k)
       ∙ sym (get_d_map_upto word n k 0 (omega (arith, size))))

@@ -22,7 +22,7 @@ use Rattle.contact_update.specs.After.{inputs_of}
 use Rattle.contact_update.specs.Contact.{update_of}
 use Rattle.update_pass.specs.BitsLaws.{active_stands, stands_active}
 use Rattle.update_pass.specs.ListsLaws.{listed_in, same_listed}
-use Rattle.update_pass.specs.Shared.{active_of, recycledOf, standingIds}
+use Rattle.update_pass.specs.Shared.{active_of, recycled_of, standing_ids}
 
 -- ---- looked up by id
 module _ {A : Type 0} (value : Updated → A) (none : A) where
@@ -60,8 +60,8 @@ unfolding standing_bits numbers_with
 standing_numbers us from zero = refl
 standing_numbers us from (suc k) = ap (λ (ns : List ℕ). cond (bit_of from us) (from ∷ ns) ns) (standing_numbers us (suc from) k)
 
-recycled_numbers : (u : ℕ → Updated) (f : ℕ → Updated) (key : ℕ → ℕ) → ((k : ℕ) → f k ≡ u (key k)) → (ns : List ℕ) → recycled_count (map f ns) ≡ recycledOf u (map key ns)
-unfolding recycled_count recycledOf
+recycled_numbers : (u : ℕ → Updated) (f : ℕ → Updated) (key : ℕ → ℕ) → ((k : ℕ) → f k ≡ u (key k)) → (ns : List ℕ) → recycled_count (map f ns) ≡ recycled_of u (map key ns)
+unfolding recycled_count recycled_of
 recycled_numbers u f key e [] = refl
 recycled_numbers u f key e (k ∷ ns) = λ i. cond (is_recycled (e k i).way) 1 0 + recycled_numbers u f key e ns i
 
@@ -106,13 +106,13 @@ module _ (s : Settings) (colliders bodies proposals g : List ℕ) where
       go false = refl
 
   pub standing_means : standing_bits 0 (capacity_of g) (map (updated (inputs_of s colliders bodies proposals)) (graph_of g).pairs)
-      ≡ standingIds (λ id. update_of s colliders bodies proposals id g) g
-  unfolding standingIds
+      ≡ standing_ids (λ id. update_of s colliders bodies proposals id g) g
+  unfolding standing_ids
   standing_means =
       standing_numbers updates 0 (capacity_of g) ∙ numbers_same (λ id. bit_of id updates) (λ id. stands g id && (own id).bit) 0 (capacity_of g) (λ n l b. bit_means n)
 
   pub recycled_means : recycled_count (map (updated (inputs_of s colliders bodies proposals)) (graph_of g).pairs)
-      ≡ recycledOf (λ id. update_of s colliders bodies proposals id g) (active_of g)
+      ≡ recycled_of (λ id. update_of s colliders bodies proposals id g) (active_of g)
   unfolding active_of
   recycled_means = ap recycled_count updates_by_place ∙ recycled_numbers own at (listed_at g) at_own (upto (listed_count g))
 

@@ -1,5 +1,5 @@
 -- What a worker's share asks and leaves, and all shares together. Definitions only.
-use Rattle.std.specs.Prelude.{ℕ, zero, suc, ◌+◌, ◌*◌, ◌≤◌, ◌<◌, ◌≡◌, true, List, [], ◌∷◌, length}
+use Rattle.std.specs.Prelude.{ℕ, zero, suc, ◌*◌, ◌≤◌, ◌<◌, ◌≡◌, true, List, length}
 use Rattle.rows.specs.Rows.{part}
 use Rattle.rules.specs.Inputs.{Settings}
 use Rattle.rules.specs.Update.{Updated}
@@ -8,12 +8,12 @@ use Rattle.manifold_records.specs.Written.{zeros}
 use Rattle.contact_range.specs.Range.{stands}
 use Rattle.contact_range.specs.Recorded.{capacity_of}
 use Rattle.contact_update.specs.Contact.{update_of}
-use Rattle.contact_update.specs.OrderLaws.{graphAfterAll}
+use Rattle.contact_update.specs.OrderLaws.{graph_after_all}
 use Rattle.contact_update.specs.UpdateFitLaws.{FitSettings}
 use Rattle.rules.specs.Limits.{most_workers}
 use Rattle.layout.specs.Shares.{shares_length}
 use Rattle.shares.specs.Shares.{workers_of, count_of, total_of, entry_at}
-use Rattle.update_pass.specs.Shared.{entries_of, first_of, bitsAfter, distancesAfter, recycledOf, parts_of, bits_length}
+use Rattle.update_pass.specs.Shared.{entries_of, first_of, bits_after, distances_after, recycled_of, parts_of, bits_length}
 use Rattle.update_pass.specs.UpdatedAllLaws.{AllReady}
 
 module _ (s : Settings) (colliders bodies proposals shares : List ℕ) where
@@ -40,10 +40,10 @@ module _ (s : Settings) (colliders bodies proposals shares : List ℕ) where
 
   -- the updates of the contacts of a list, one after another: the graph, the bits, the distances, and how many were recycled
   pub record Taken (ids g bits ds g' bits' ds' : List ℕ) (r : ℕ) : Type 0 where
-    pub graph : g' ≡ graphAfterAll s colliders bodies proposals g ids
-    pub bit : bits' ≡ bitsAfter (made g) bits ids
-    pub distance : ds' ≡ distancesAfter (made g) ds ids
-    pub recycled : r ≡ recycledOf (made g) ids
+    pub graph : g' ≡ graph_after_all s colliders bodies proposals g ids
+    pub bit : bits' ≡ bits_after (made g) bits ids
+    pub distance : ds' ≡ distances_after (made g) ds ids
+    pub recycled : r ≡ recycled_of (made g) ids
 
   -- The promise of `update_share`.
   abbrev pub ShareTaken : ℕ → List ℕ → List ℕ → List ℕ → List ℕ → List ℕ → List ℕ → ℕ → Type 0
@@ -57,10 +57,10 @@ module _ (s : Settings) (colliders bodies proposals shares : List ℕ) where
 
   -- The promise of `update_all`.
   pub record AllTaken (g g' bits' ds' : List ℕ) (r : ℕ) : Type 0 where
-    pub graph : g' ≡ graphAfterAll s colliders bodies proposals g (entries_of shares)
+    pub graph : g' ≡ graph_after_all s colliders bodies proposals g (entries_of shares)
     pub bit : bits' ≡ parts_of (made g) (blocks_of (capacity_of g)) shares most_workers
-    pub distance : ds' ≡ distancesAfter (made g) (zeros (capacity_of g)) (entries_of shares)
-    pub recycled : r ≡ recycledOf (made g) (entries_of shares)
+    pub distance : ds' ≡ distances_after (made g) (zeros (capacity_of g)) (entries_of shares)
+    pub recycled : r ≡ recycled_of (made g) (entries_of shares)
 
 -- the first n parts of that many words each, joined by or
 unfoldable pub joined_parts : ℕ → List ℕ → ℕ → List ℕ

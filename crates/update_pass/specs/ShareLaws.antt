@@ -1,6 +1,6 @@
 -- A worker's contacts, one after another: each is ready when its turn comes, and the rules make of it what they make of it at the start. Assumes nothing.
-use Rattle.std.specs.Prelude.{ℕ, suc, ◌+◌, ◌*◌, ◌≤◌, ◌<◌, ◌≡◌, refl, ◌≢◌, Bool, true, false, cond, List, [], ◌∷◌, ◌++◌, length, get_or}
-use Rattle.std.proofs.Common.{add_assoc, sym, ap, subst, ◌∙◌, inl, inr}
+use Rattle.std.specs.Prelude.{ℕ, suc, ◌+◌, ◌*◌, ◌≤◌, ◌<◌, ◌≡◌, ◌≢◌, Bool, true, false, cond, List, [], ◌∷◌, ◌++◌, length, get_or}
+use Rattle.std.proofs.Common.{add_assoc, sym, ap, subst, ◌∙◌}
 use native.Mathlib.Omega.{arith}
 use Rattle.rows.specs.Rows.{put}
 use Rattle.rules.specs.Inputs.{Settings}
@@ -14,12 +14,12 @@ use Rattle.contact_range.specs.RangeLaws.{standing_below}
 use Rattle.contact_range.specs.Recorded.{capacity_of}
 use Rattle.contact_update.specs.After.{graph_after}
 use Rattle.contact_update.specs.Contact.{ContactReady, ContactUpdated, update_of}
-use Rattle.contact_update.specs.OrderLaws.{graphAfterAll}
+use Rattle.contact_update.specs.OrderLaws.{graph_after_all}
 use Rattle.shares.specs.Shares.{workers_of, count_of, start_of, total_of, entry_at}
 use Rattle.update_pass.specs.ListsLaws.{start_within, bits_next, distances_next, recycled_next, length_bits_after, length_distances_after, recycled_most}
 use Rattle.update_pass.specs.Share.{AllListed, ShareReady, made, Taken}
-use Rattle.update_pass.specs.Shared.{first_of, bitsAfter, distancesAfter, recycledOf}
-use Rattle.update_pass.specs.UpdatedAllLaws.{AllStand, after_all_next, after_ready, after_stands, after_all_capacity, unaffected}
+use Rattle.update_pass.specs.Shared.{first_of, bits_after, distances_after, recycled_of}
+use Rattle.update_pass.specs.UpdatedAllLaws.{AllStand, after_all_next, after_ready, after_stands, unaffected}
 
 module _ (s : Settings) (colliders bodies proposals shares : List ℕ) {g : List ℕ} (a : AllListed s colliders bodies proposals shares g) (w : ℕ) (given : w < workers_of shares) where
   abbrev id_at : ℕ → ℕ
@@ -43,7 +43,7 @@ module _ (s : Settings) (colliders bodies proposals shares : List ℕ) {g : List
       a.once (start_of shares w + j) (start_of shares w + k) (omega arith) (within k l) (sym (get_d_map_upto id_at k j 0 c) ∙ e)
 
   abbrev here : ℕ → List ℕ
-  here k = graphAfterAll s colliders bodies proposals g (ids k)
+  here k = graph_after_all s colliders bodies proposals g (ids k)
 
   module _ (k : ℕ) (l : k < count_of shares w) where
     stood : AllStand g (ids k)
@@ -74,10 +74,10 @@ module _ (s : Settings) (colliders bodies proposals shares : List ℕ) {g : List
         record {
           graph =
               c.graph ∙ ap (λ (x : List ℕ). graph_after s colliders bodies proposals x id) t.graph ∙ sym (after_all_next s colliders bodies proposals g (ids k) id)
-              ∙ ap (graphAfterAll s colliders bodies proposals g) (sym more);
-          bit = c.bit ∙ (λ i. cond (u i).bit (marked (t.bit i) id) (t.bit i)) ∙ sym (bits_next m bits (ids k) id) ∙ ap (bitsAfter m bits) (sym more);
-          distance = c.distance ∙ (λ i. put (t.distance i) id (float_word (u i).max_contact_distance ∷ [])) ∙ sym (distances_next m ds (ids k) id) ∙ ap (distancesAfter m ds) (sym more);
-          recycled = (λ i. t.recycled i + cond ((c.recycled ∙ ap (λ (x : Updated). is_recycled x.way) u) i) 1 0) ∙ sym (recycled_next m (ids k) id) ∙ ap (recycledOf m) (sym more);
+              ∙ ap (graph_after_all s colliders bodies proposals g) (sym more);
+          bit = c.bit ∙ (λ i. cond (u i).bit (marked (t.bit i) id) (t.bit i)) ∙ sym (bits_next m bits (ids k) id) ∙ ap (bits_after m bits) (sym more);
+          distance = c.distance ∙ (λ i. put (t.distance i) id (float_word (u i).max_contact_distance ∷ [])) ∙ sym (distances_next m ds (ids k) id) ∙ ap (distances_after m ds) (sym more);
+          recycled = (λ i. t.recycled i + cond ((c.recycled ∙ ap (λ (x : Updated). is_recycled x.way) u) i) 1 0) ∙ sym (recycled_next m (ids k) id) ∙ ap (recycled_of m) (sym more);
         }
 
     -- the code's place of the entry

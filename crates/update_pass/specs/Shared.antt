@@ -1,5 +1,5 @@
 -- The workers' contacts, and what their updates leave in the lent rows. Definitions only.
-use Rattle.std.specs.Prelude.{ℕ, zero, suc, ◌+◌, ◌*◌, Bool, cond, ◌&&◌, List, [], ◌∷◌, ◌++◌, map, ltb, Float}
+use Rattle.std.specs.Prelude.{ℕ, zero, suc, ◌+◌, ◌*◌, cond, ◌&&◌, List, [], ◌∷◌, ◌++◌, map, ltb}
 use Rattle.rows.specs.Rows.{put}
 use Rattle.rows.specs.Slots.{upto}
 use Rattle.rules.specs.Update.{is_recycled, Updated}
@@ -29,42 +29,42 @@ share_of xs w = cond (ltb w (workers_of xs)) (first_of xs w (count_of xs w)) []
 -- u is what the rules make of each contact
 module _ (u : ℕ → Updated) where
   -- bit words with the bit of each contact of the list whose update sets it
-  unfoldable pub bitsAfter : List ℕ → List ℕ → List ℕ
-  bitsAfter bits [] = bits
-  bitsAfter bits (id ∷ ids) = bitsAfter (cond (u id).bit (marked bits id) bits) ids
+  unfoldable pub bits_after : List ℕ → List ℕ → List ℕ
+  bits_after bits [] = bits
+  bits_after bits (id ∷ ids) = bits_after (cond (u id).bit (marked bits id) bits) ids
 
   -- distances, each contact's at its id
-  unfoldable pub distancesAfter : List ℕ → List ℕ → List ℕ
-  distancesAfter ds [] = ds
-  distancesAfter ds (id ∷ ids) = distancesAfter (put ds id (float_word (u id).max_contact_distance ∷ [])) ids
+  unfoldable pub distances_after : List ℕ → List ℕ → List ℕ
+  distances_after ds [] = ds
+  distances_after ds (id ∷ ids) = distances_after (put ds id (float_word (u id).max_contact_distance ∷ [])) ids
 
   -- how many of the list were recycled
-  unfoldable pub recycledOf : List ℕ → ℕ
-  recycledOf [] = 0
-  recycledOf (id ∷ ids) = cond (is_recycled (u id).way) 1 0 + recycledOf ids
+  unfoldable pub recycled_of : List ℕ → ℕ
+  recycled_of [] = 0
+  recycled_of (id ∷ ids) = cond (is_recycled (u id).way) 1 0 + recycled_of ids
 
   -- ---- the buffer of bit words: a part for each of eight workers, the bits of the worker's contacts in it
-  unfoldable pub workerBits : ℕ → List ℕ → ℕ → List ℕ
-  workerBits blocks xs w = bitsAfter (zeros blocks) (share_of xs w)
+  unfoldable pub worker_bits : ℕ → List ℕ → ℕ → List ℕ
+  worker_bits blocks xs w = bits_after (zeros blocks) (share_of xs w)
 
   -- the parts of the first n workers
   unfoldable pub parts_of : ℕ → List ℕ → ℕ → List ℕ
   parts_of blocks xs zero = []
-  parts_of blocks xs (suc n) = parts_of blocks xs n ++ workerBits blocks xs n
+  parts_of blocks xs (suc n) = parts_of blocks xs n ++ worker_bits blocks xs n
 
   -- joined by or
-  unfoldable pub joinedOf : ℕ → List ℕ → ℕ → List ℕ
-  joinedOf blocks xs zero = zeros blocks
-  joinedOf blocks xs (suc n) = joined (joinedOf blocks xs n) (workerBits blocks xs n)
+  unfoldable pub joined_of : ℕ → List ℕ → ℕ → List ℕ
+  joined_of blocks xs zero = zeros blocks
+  joined_of blocks xs (suc n) = joined (joined_of blocks xs n) (worker_bits blocks xs n)
 
   -- ---- of the graph alone, without shares
   -- the contacts whose status bit stands, ascending
-  unfoldable pub standingIds : List ℕ → List ℕ
-  standingIds g = numbers_with (λ id. stands g id && (u id).bit) 0 (capacity_of g)
+  unfoldable pub standing_ids : List ℕ → List ℕ
+  standing_ids g = numbers_with (λ id. stands g id && (u id).bit) 0 (capacity_of g)
 
   -- a distance for each id below the capacity: +0 where no contact stands
-  unfoldable pub distancesOf : List ℕ → List ℕ
-  distancesOf g = map (λ id. cond (stands g id) (float_word (u id).max_contact_distance) 0) (upto (capacity_of g))
+  unfoldable pub distances_of : List ℕ → List ℕ
+  distances_of g = map (λ id. cond (stands g id) (float_word (u id).max_contact_distance) 0) (upto (capacity_of g))
 
 -- bit words of a graph: as many for each worker as hold a bit for each contact
 abbrev pub bits_length : ℕ → ℕ

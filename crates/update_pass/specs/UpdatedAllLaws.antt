@@ -26,7 +26,7 @@ use Rattle.layout.specs.Proposal.{proposal_size}
 use Rattle.contact_update.specs.After.{graph_after, inputs_of}
 use Rattle.contact_update.specs.Contact.{ContactReady, update_of}
 use Rattle.contact_update.specs.GraphLaws.{after_capacity, stands_kept}
-use Rattle.contact_update.specs.OrderLaws.{graphAfterAll, others_unaffected}
+use Rattle.contact_update.specs.OrderLaws.{graph_after_all, others_unaffected}
 use Rattle.contact_update.specs.Plain.{pair_updated, plain_update}
 use Rattle.contact_update.specs.UpdateFitLaws.{FitSettings}
 use Rattle.contact_update.specs.UpdateLaws.{update_keeps, update_means}
@@ -47,11 +47,11 @@ module _ (s : Settings) (colliders bodies proposals : List ℕ) where
   after g id = graph_after s colliders bodies proposals g id
 
   abbrev all : List ℕ → List ℕ → List ℕ
-  all g ids = graphAfterAll s colliders bodies proposals g ids
+  all g ids = graph_after_all s colliders bodies proposals g ids
 
   -- one contact more
   pub after_all_next : (g : List ℕ) (ids : List ℕ) (id : ℕ) → all g (ids ++ id ∷ []) ≡ after (all g ids) id
-  unfolding graphAfterAll
+  unfolding graph_after_all
   after_all_next g [] id = refl
   after_all_next g (i ∷ ids) id = after_all_next (after g i) ids id
 
@@ -88,21 +88,21 @@ module _ (s : Settings) (colliders bodies proposals : List ℕ) where
 
   -- ---- the updates of a list
   pub after_ready : (g : List ℕ) → FitSettings s → AllReady colliders bodies proposals g → (ids : List ℕ) → AllStand g ids → AllReady colliders bodies proposals (all g ids)
-  unfolding graphAfterAll
+  unfolding graph_after_all
   after_ready g fit r [] h = r
   after_ready g fit r (id ∷ ids) h =
       let st = h zero (zero-lt-suc (length ids)) in
       after_ready (after g id) fit (one_ready g fit r id st) ids (rest_stands g fit r id st ids h)
 
   pub after_stands : (g : List ℕ) → FitSettings s → AllReady colliders bodies proposals g → (ids : List ℕ) → AllStand g ids → (j : ℕ) → stands (all g ids) j ≡ stands g j
-  unfolding graphAfterAll
+  unfolding graph_after_all
   after_stands g fit r [] h j = refl
   after_stands g fit r (id ∷ ids) h j =
       let st = h zero (zero-lt-suc (length ids)) in
       after_stands (after g id) fit (one_ready g fit r id st) ids (rest_stands g fit r id st ids h) j ∙ one_stands g fit r id st j
 
   pub after_all_capacity : (g : List ℕ) → FitSettings s → AllReady colliders bodies proposals g → (ids : List ℕ) → AllStand g ids → capacity_of (all g ids) ≡ capacity_of g
-  unfolding graphAfterAll
+  unfolding graph_after_all
   after_all_capacity g fit r [] h = refl
   after_all_capacity g fit r (id ∷ ids) h =
       let st = h zero (zero-lt-suc (length ids)) in
@@ -111,7 +111,7 @@ module _ (s : Settings) (colliders bodies proposals : List ℕ) where
   -- what the rules make of a contact that is not of the list
   pub unaffected : (g : List ℕ) → FitSettings s → AllReady colliders bodies proposals g → (ids : List ℕ) → AllStand g ids → (j : ℕ) → stands g j ≡ true
       → ((k : ℕ) → k < length ids → get_or ids k 0 ≢ j) → update_of s colliders bodies proposals j (all g ids) ≡ update_of s colliders bodies proposals j g
-  unfolding graphAfterAll
+  unfolding graph_after_all
   unaffected g fit r [] h j e n = refl
   unaffected g fit r (id ∷ ids) h j e n =
       let st = h zero (zero-lt-suc (length ids)) in
@@ -120,9 +120,9 @@ module _ (s : Settings) (colliders bodies proposals : List ℕ) where
 
 -- ---- the plain pairs, updated in turn
 module _ (i : Inputs) where
-  unfoldable pub pairAfter : List ℕ → Pair → Pair
-  pairAfter [] p = p
-  pairAfter (id ∷ ids) p = pairAfter ids (pair_updated i id p)
+  unfoldable pub pair_after : List ℕ → Pair → Pair
+  pair_after [] p = p
+  pair_after (id ∷ ids) p = pair_after ids (pair_updated i id p)
 
   own_updated : (id : ℕ) (p : Pair) → eqb p.names.id id ≡ true → pair_updated i id p ≡ (updated i p).pair
   unfolding pair_updated
@@ -133,16 +133,16 @@ module _ (i : Inputs) where
   other_updated id p e = ap (λ (t : Bool). cond t (updated i p).pair p) e
 
   -- a pair that the list does not name
-  pair_kept : (ids : List ℕ) (p : Pair) → (Listed ids p.names.id → ⊥) → pairAfter ids p ≡ p
-  unfolding pairAfter
+  pair_kept : (ids : List ℕ) (p : Pair) → (Listed ids p.names.id → ⊥) → pair_after ids p ≡ p
+  unfolding pair_after
   pair_kept [] p n = refl
   pair_kept (id ∷ ids) p n =
-      ap (pairAfter ids) (other_updated id p (ne_eqb p.names.id id (λ e. n (zero, zero-lt-suc (length ids), sym e))))
+      ap (pair_after ids) (other_updated id p (ne_eqb p.names.id id (λ e. n (zero, zero-lt-suc (length ids), sym e))))
       ∙ pair_kept ids p (λ m. n (listed_tail id ids m))
 
   -- and one that it names once
-  pub pair_once : (ids : List ℕ) (p : Pair) → Distinct ids → Listed ids p.names.id → pairAfter ids p ≡ (updated i p).pair
-  unfolding pairAfter
+  pub pair_once : (ids : List ℕ) (p : Pair) → Distinct ids → Listed ids p.names.id → pair_after ids p ≡ (updated i p).pair
+  unfolding pair_after
   pair_once [] p d m = absurd (not-suc-le-zero m.1)
   pair_once (id ∷ ids) p d m = go (eqb p.names.id id) refl (pair_once ids p (λ j k l b. d (suc j) (suc k) (suc-le-suc l) (suc-le-suc b)))
     where
@@ -156,9 +156,9 @@ module _ (i : Inputs) where
       gone : eqb p.names.id id ≡ true → Listed ids (updated i p).pair.names.id → ⊥
       gone e (k, l, q) = d zero (suc k) (zero-lt-suc k) (suc-le-suc l) (sym (q ∙ same_id ∙ eqb-true p.names.id id e))
 
-      go : (t : Bool) → eqb p.names.id id ≡ t → (Listed ids p.names.id → pairAfter ids p ≡ (updated i p).pair) → pairAfter ids (pair_updated i id p) ≡ (updated i p).pair
-      go true e r = ap (pairAfter ids) (own_updated id p e) ∙ pair_kept ids (updated i p).pair (gone e)
-      go false e r = ap (pairAfter ids) (other_updated id p e) ∙ r (later e m)
+      go : (t : Bool) → eqb p.names.id id ≡ t → (Listed ids p.names.id → pair_after ids p ≡ (updated i p).pair) → pair_after ids (pair_updated i id p) ≡ (updated i p).pair
+      go true e r = ap (pair_after ids) (own_updated id p e) ∙ pair_kept ids (updated i p).pair (gone e)
+      go false e r = ap (pair_after ids) (other_updated id p e) ∙ r (later e m)
 
 -- the graph with other pairs
 abbrev with_pairs : Graph → List Pair → Graph
@@ -170,30 +170,30 @@ module _ (s : Settings) (colliders bodies proposals : List ℕ) where
 
   -- the updates of a list, on the plain graph
   pub after_means : (g : List ℕ) → FitSettings s → AllReady colliders bodies proposals g → (ids : List ℕ) → AllStand g ids
-      → graph_of (graphAfterAll s colliders bodies proposals g ids) ≡ with_pairs (graph_of g) (map (pairAfter inputs ids) (graph_of g).pairs)
-  unfolding graphAfterAll pairAfter plain_update
+      → graph_of (graph_after_all s colliders bodies proposals g ids) ≡ with_pairs (graph_of g) (map (pair_after inputs ids) (graph_of g).pairs)
+  unfolding graph_after_all pair_after plain_update
   after_means g fit r [] h = ap (with_pairs (graph_of g)) (sym (map-id (graph_of g).pairs))
   after_means g fit r (id ∷ ids) h =
       let st = h zero (zero-lt-suc (length ids)) in
       let next = graph_after s colliders bodies proposals g id in
       after_means next fit (one_ready s colliders bodies proposals g fit r id st) ids (rest_stands s colliders bodies proposals g fit r id st ids h)
-      ∙ ap (λ (p : Graph). with_pairs p (map (pairAfter inputs ids) p.pairs)) (update_means s colliders bodies proposals id g (r.each id st) fit)
-      ∙ ap (with_pairs (graph_of g)) (map-map (pairAfter inputs ids) (pair_updated inputs id) (graph_of g).pairs)
+      ∙ ap (λ (p : Graph). with_pairs p (map (pair_after inputs ids) p.pairs)) (update_means s colliders bodies proposals id g (r.each id st) fit)
+      ∙ ap (with_pairs (graph_of g)) (map-map (pair_after inputs ids) (pair_updated inputs id) (graph_of g).pairs)
 
   -- each pair of the graph is named once
-  pairs_once_lem : (g : List ℕ) → Checked g → map (pairAfter inputs (active_of g)) (graph_of g).pairs ≡ map (λ (p : Pair). (updated inputs p).pair) (graph_of g).pairs
+  pairs_once_lem : (g : List ℕ) → Checked g → map (pair_after inputs (active_of g)) (graph_of g).pairs ≡ map (λ (p : Pair). (updated inputs p).pair) (graph_of g).pairs
   unfolding graph_of
   pairs_once_lem g c =
       let n = listed_count g in
-      map-map (pairAfter inputs (active_of g)) (listed_pair g) (upto n)
-      ∙ map_upto_same (λ k. pairAfter inputs (active_of g) (listed_pair g k)) (λ k. (updated inputs (listed_pair g k)).pair) n
+      map-map (pair_after inputs (active_of g)) (listed_pair g) (upto n)
+      ∙ map_upto_same (λ k. pair_after inputs (active_of g) (listed_pair g k)) (λ k. (updated inputs (listed_pair g k)).pair) n
       (λ k l. pair_once inputs (active_of g) (listed_pair g k) (active_distinct g c)
       (subst (Listed (active_of g)) (sym (pair_id g k)) (stands_active g (listed_at g k) (stands_at g k l))))
       ∙ sym (map-map (λ (p : Pair). (updated inputs p).pair) (listed_pair g) (upto n))
 
   -- all contacts of the graph: each pair as the rules update it
   pub all_means : (g : List ℕ) → FitSettings s → AllReady colliders bodies proposals g
-      → graph_of (graphAfterAll s colliders bodies proposals g (active_of g))
+      → graph_of (graph_after_all s colliders bodies proposals g (active_of g))
       ≡ record {
         capacity = (graph_of g).capacity;
         given = (graph_of g).given;

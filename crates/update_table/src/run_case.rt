@@ -10,7 +10,7 @@ use layout::proposal::PROPOSAL_SIZE;
 use layout::settings::SETTINGS_LENGTH;
 use proposals::proposal::proposal_fits;
 
-#[derive(Drop)]
+#[derive(Clone, Copy)]
 pub struct CaseOutcome {
     // The words are in range, and the update was made.
     pub ran: bool,

@@ -12,6 +12,8 @@ use case_draws::places::put;
 use layout::body::BODIES_LENGTH;
 use layout::collider::COLLIDERS_LENGTH;
 use math::bits::bits_of;
+use std::io;
+use std::io::Write;
 
 fn fill_colliders(colliders: &mut [u32], case: u32) {
     fill(colliders, 0, COLLIDER_SIZE, Drawn::Collider(0), case);
@@ -58,58 +60,62 @@ fn fill_case(
     fill_record(colliders, bodies, record, case);
 }
 
-fn print_outcome(c: u32, o: CaseOutcome, record: &[u32]) {
-    print_number(c);
+fn print_outcome<W: Write>(out: &mut W, c: u32, o: CaseOutcome, record: &[u32]) -> io::Result<()> {
+    print_number(out, c)?;
     if o.ran {
-        print_mark(o.bit);
-        print_mark(o.recycled);
-        print_word(bits_of(o.distance));
-        print_count(manifold_count(record));
-        print_word(hash_of(record));
+        print_mark(out, o.bit)?;
+        print_mark(out, o.recycled)?;
+        print_word(out, bits_of(o.distance))?;
+        print_count(out, manifold_count(record))?;
+        print_word(out, hash_of(record))?;
     } else {
-        print_name(b"\trefused");
+        print_name(out, b"\trefused")?;
     }
-    print_end();
+    print_end(out)
 }
 
-fn print_case(
+fn print_case<W: Write>(
+    out: &mut W,
     settings: &mut [u32],
     colliders: &mut [u32],
     bodies: &mut [u32],
     proposal: &mut [u32],
     record: &mut [u32],
     c: u32,
-) {
+) -> io::Result<()> {
     fill_case(settings, colliders, bodies, proposal, record, draw(c, 0));
     let o = run_case(settings, colliders, bodies, proposal, record);
-    print_outcome(c, o, record);
+    print_outcome(out, c, o, record)
 }
 
-fn print_each(
+fn print_each<W: Write>(
+    out: &mut W,
     settings: &mut [u32],
     colliders: &mut [u32],
     bodies: &mut [u32],
     proposal: &mut [u32],
     record: &mut [u32],
-) {
+) -> io::Result<()> {
     let mut c = 0;
     while c < 1500 {
-        print_case(settings, colliders, bodies, proposal, record, c);
+        print_case(out, settings, colliders, bodies, proposal, record, c)?;
         c += 1;
     }
+    Ok(())
 }
 
-pub fn print_cases() {
+pub fn print_cases<W: Write>(out: &mut W) -> io::Result<()> {
     let mut settings = [0u32; SETTINGS_LENGTH as usize];
     let mut colliders = [0u32; COLLIDERS_LENGTH];
     let mut bodies = [0u32; BODIES_LENGTH];
     let mut proposal = [0u32; PROPOSAL_SIZE as usize];
     let mut record = [0u32; CONTACT_SIZE as usize];
     print_each(
+        out,
         &mut settings,
         &mut colliders,
         &mut bodies,
         &mut proposal,
         &mut record,
-    );
+    )
 }

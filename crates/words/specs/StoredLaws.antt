@@ -1,6 +1,5 @@
 -- Stores one after another, put together: a law for each function that stores so, which its proof finds by `search`. Assumes nothing.
-use Rattle.std.specs.Prelude.{◌≡◌, refl, ℕ, ◌+◌, List, [], ◌∷◌, ◌++◌}
-use Rattle.std.proofs.Common.{sym, ap, ◌∙◌}
+use Rattle.std.specs.Prelude.{◌≡◌, ℕ, ◌+◌, List, [], ◌∷◌}
 use Rattle.rows.specs.Rows.{put}
 use Rattle.rows.specs.Laws.{put_next}
 use Rattle.math.specs.declared.vec.Vec3.{Vec3}

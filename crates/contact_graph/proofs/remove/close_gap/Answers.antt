@@ -1,0 +1,5 @@
+-- `contact_graph::remove::close_gap` meets its contract: what each call ensures, put together. Assumes nothing.
+use Rattle.contact_graph.proofs.remove.close_gap.Goals as goal
+
+pub returns : goal.returns
+returns c = rw (c.store_word-2.ensures, c.store_word.ensures)

@@ -1,0 +1,10 @@
+-- `contact_range::places::free_at` meets its contract. Assumes nothing.
+use mathlib.Core.Path.{ap, ◌∙◌}
+use Prim.Native.Nat.{ℕ, ◌+◌}
+use Rattle.words.specs.Words.{word_at}
+use Rattle.contact_range.proofs.places.free_at.Goals as goal
+
+pub returns : goal.returns
+returns c =
+    let a = c.args in
+    c.id_at.ensures ∙ ap (λ (n : ℕ). word_at a.graph.now (4 + n + a.k)) c.number_at-capacity.ensures

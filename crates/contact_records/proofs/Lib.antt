@@ -1,0 +1,4 @@
+pub mod IntLaws
+pub mod BackLaws
+pub mod FitLaws
+pub mod PartLaws

@@ -1,0 +1,17 @@
+-- What the loop of `contact_update::recycled::recycle_manifolds` keeps, and how far there is still to go.
+use mathlib.Core.Path.{◌≡◌}
+use mathlib.Core.List.{map}
+use Prim.Native.Nat.{◌≤◌, ◌+◌, ◌*◌, ◌-◌}
+use lib.ListN.{length, take}
+use Rattle.manifold_records.specs.Recorded.{manifolds_at}
+use Rattle.contact_update.specs.After.{manifolds_put}
+use Rattle.contact_update.specs.PutLaws.{Left}
+use Rattle.contact_update.specs.Updates.{manifold_after}
+use Rattle.contact_update.proofs.recycled.recycle_manifolds.Given as goal
+
+abbrev pub invariant-loop-k : goal.invariant-loop-k
+invariant-loop-k l =
+    (l.k ≤ l.n) × (length l.words ≡ length l.initial.words) × Left l.initial.words l.words (37 + l.k * 81) × (l.words ≡ manifolds_put (take l.k (map (manifold_after l.motion) (manifolds_at l.initial.words 36))) 37 l.initial.words)
+
+abbrev pub decreases-loop-k : goal.decreases-loop-k
+decreases-loop-k l = l.n - l.k

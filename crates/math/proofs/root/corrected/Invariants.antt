@@ -1,0 +1,16 @@
+-- What the loops of `math::root::corrected` keep, and how far there is still to go.
+use Rattle.std.proofs.Common.{◌+◌, ◌-◌, ◌*◌, ◌^◌, ◌<◌, ◌≤◌}
+use Rattle.math.proofs.CorrectedLaws.{nearest_whole}
+use Rattle.math.proofs.root.corrected.Given as goal
+
+abbrev pub invariant-loop-q : goal.invariant-loop-q
+invariant-loop-q l = l.q ≤ 2 ^ 24
+
+abbrev pub decreases-loop-q : goal.decreases-loop-q
+decreases-loop-q l = l.q - nearest_whole l.m
+
+abbrev pub invariant-loop-q-2 : goal.invariant-loop-q-2
+invariant-loop-q-2 l = (l.q ≤ 2 ^ 24) × (l.q * l.q < l.m + l.q)
+
+abbrev pub decreases-loop-q-2 : goal.decreases-loop-q-2
+decreases-loop-q-2 l = nearest_whole l.m - l.q

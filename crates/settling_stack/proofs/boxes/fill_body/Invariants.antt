@@ -1,0 +1,12 @@
+-- What the loop of `settling_stack::boxes::fill_body` keeps, and how far there is still to go.
+use Prim.Native.Nat.{◌≤◌, ◌-◌}
+use mathlib.Core.Path.{◌≡◌}
+use lib.ListN.{length}
+use Rattle.layout.specs.Body.{body_size}
+use Rattle.settling_stack.proofs.boxes.fill_body.Given as goal
+
+abbrev pub invariant-loop-i : goal.invariant-loop-i
+invariant-loop-i l = (l.i ≤ body_size) × (length l.bodies ≡ length l.initial.bodies)
+
+abbrev pub decreases-loop-i : goal.decreases-loop-i
+decreases-loop-i l = body_size - l.i

@@ -1,0 +1,12 @@
+-- What the loop of `share_orders::world::fill_collider` keeps, and how far there is still to go.
+use Prim.Native.Nat.{◌≤◌, ◌-◌}
+use mathlib.Core.Path.{◌≡◌}
+use lib.ListN.{length}
+use Rattle.layout.specs.Collider.{collider_size}
+use Rattle.share_orders.proofs.world.fill_collider.Given as goal
+
+abbrev pub invariant-loop-i : goal.invariant-loop-i
+invariant-loop-i l = (l.i ≤ collider_size) × (length l.colliders ≡ length l.initial.colliders)
+
+abbrev pub decreases-loop-i : goal.decreases-loop-i
+decreases-loop-i l = collider_size - l.i

@@ -1,0 +1,4 @@
+pub mod StepLaws
+pub mod ShareLaws
+pub mod CodeLaws
+pub mod ReadLaws

@@ -1,0 +1,11 @@
+-- What the loop of `step_table::row_draws::fill_colliders` keeps, and how far there is still to go.
+use Prim.Native.Nat.{◌≤◌, ◌-◌}
+use mathlib.Core.Path.{◌≡◌}
+use lib.ListN.{length}
+use Rattle.step_table.proofs.row_draws.fill_colliders.Given as goal
+
+abbrev pub invariant-loop-n : goal.invariant-loop-n
+invariant-loop-n l = (l.n ≤ l.count) × (length l.given ≡ length l.initial.given)
+
+abbrev pub decreases-loop-n : goal.decreases-loop-n
+decreases-loop-n l = l.count - l.n

@@ -1,0 +1,12 @@
+-- What the loop of `update_pass::standing::join` keeps, and how far there is still to go.
+use mathlib.Core.Path.{◌≡◌}
+use Prim.Native.Nat.{◌-◌, ◌≤◌}
+use lib.ListN.{length}
+use Rattle.update_pass.specs.Share.{joined_parts}
+use Rattle.update_pass.proofs.standing.join.Given as goal
+
+abbrev pub invariant-loop-w : goal.invariant-loop-w
+invariant-loop-w l = (l.w ≤ 8) × (l.joined ≡ joined_parts l.count l.bits l.w) × (length l.joined ≡ length l.initial.joined)
+
+abbrev pub decreases-loop-w : goal.decreases-loop-w
+decreases-loop-w l = 8 - l.w
