@@ -1,6 +1,6 @@
 /*
  * Contact stepping for a load planner: avian's 3D narrow phase and contact graph, over lent rows of words. C99.
- * `rt staticlib contact_api` at the root of the repository makes target/staticlib/libcontact_api.a. To link:
+ * `bindings/library` makes target/staticlib/libcontact_api.a. To link, at the root of the repository:
  *     cc -std=c99 -I bindings/c main.c target/staticlib/libcontact_api.a
  * The library needs memcpy and memset, and nothing else. docs/BUFFERS.md has every row and its words.
  *

@@ -1,5 +1,5 @@
 //! Links the static library `contact_api`: from the folder in `SARDINEROD_LIB_DIR`, or else from `target/staticlib` of the
-//! repository, where `rt staticlib contact_api` puts it.
+//! repository, where the script `bindings/library` puts it.
 
 use std::env;
 use std::path::{Path, PathBuf};
@@ -44,7 +44,7 @@ fn built(root: &Path) -> PathBuf {
     }
     if !folder.join(ARCHIVE).is_file() {
         fail(&format!(
-            "`rt staticlib contact_api` left no {ARCHIVE} in {}",
+            "bindings/library left no {ARCHIVE} in {}",
             folder.display()
         ));
     }
@@ -52,19 +52,14 @@ fn built(root: &Path) -> PathBuf {
 }
 
 fn build(root: &Path) {
-    let status = Command::new("rt")
-        .args(["staticlib", "contact_api"])
-        .current_dir(root)
-        .status();
+    let status = Command::new(root.join("bindings/library")).status();
     match status {
         Ok(status) if status.success() => {}
         Ok(status) => fail(&format!(
-            "`rt staticlib contact_api` in {} failed: {status}",
+            "bindings/library of {} failed: {status}. It needs `rt` of the Rattle kit; or name the folder of {ARCHIVE} in SARDINEROD_LIB_DIR",
             root.display()
         )),
-        Err(error) => fail(&format!(
-            "`rt` could not be run ({error}): install the Rattle kit, or name the folder of {ARCHIVE} in SARDINEROD_LIB_DIR"
-        )),
+        Err(error) => fail(&format!("bindings/library could not be run: {error}")),
     }
 }
 

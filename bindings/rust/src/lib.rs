@@ -68,7 +68,7 @@
 //! # Linking
 //!
 //! The folder of `libcontact_api.a` is that in the variable `SARDINEROD_LIB_DIR`, or else `target/staticlib` of the repository; if
-//! it is not there, `rt staticlib contact_api` makes it.
+//! it is not there, `bindings/library` makes it.
 #![deny(missing_docs)]
 
 mod graph;

@@ -113,7 +113,7 @@ pub fn raw_functions() -> Vec<Function> {
 
 /// The functions that the library exports, by its own source.
 pub fn library_functions() -> Vec<Function> {
-    let folder = root().join("crates/contact_api/src");
+    let folder = root().join("crates/contact_api_c/src");
     let files = fs::read_dir(&folder).expect("the library's source is there");
     files
         .flat_map(|file| {
