@@ -1,6 +1,6 @@
 // A case's colliders.
 use crate::bodies::body_word;
-use crate::draws::{all_but_one_in, draw, float, one_in, past, slot, style};
+use crate::draws::{all_but_one_in, draw, float, one_in, past, pick, slot, style};
 use crate::numbers::{
     BODY_POSITION, COLLIDER_BODY, COLLIDER_BODY_NUMBER, COLLIDER_FRICTION, COLLIDER_LOWER,
     COLLIDER_MARGIN, COLLIDER_MEMBERSHIPS, COLLIDER_POSITION, COLLIDER_PRESENT,
@@ -73,16 +73,16 @@ fn layers_word(owner: u32, i: u32) -> u32 {
         return 0;
     }
     if i == COLLIDER_MEMBERSHIPS {
-        MEMBERSHIPS[(d / 64 % 8) as usize]
+        pick(&MEMBERSHIPS, d / 64)
     } else {
-        FILTERS[(d / 64 % 8) as usize]
+        pick(&FILTERS, d / 64)
     }
 }
 
 // Its own, at times the other's or one that is absent; behind a mark of 0 any word.
 fn body_number(owner: u32, n: u32) -> u32 {
     let d = draw(owner, COLLIDER_BODY_NUMBER);
-    if one_in(owner, COLLIDER_BODY, 12) == 1 {
+    if one_in(draw(owner, COLLIDER_BODY), 12) == 1 {
         return d;
     }
     match d % 24 {
@@ -113,8 +113,8 @@ fn place_word(case: u32, n: u32, owner: u32, i: u32) -> u32 {
 pub fn collider_word(case: u32, n: u32, i: u32) -> u32 {
     let owner = draw(case, slot(10, n));
     match i {
-        COLLIDER_PRESENT => all_but_one_in(owner, i, 64),
-        COLLIDER_BODY => all_but_one_in(owner, i, 12),
+        COLLIDER_PRESENT => all_but_one_in(draw(owner, i), 64),
+        COLLIDER_BODY => all_but_one_in(draw(owner, i), 12),
         COLLIDER_BODY_NUMBER => body_number(owner, n),
         COLLIDER_LOWER..COLLIDER_FRICTION => place_word(case, n, owner, i),
         COLLIDER_FRICTION..COLLIDER_RESTITUTION => coefficient_word(
@@ -132,6 +132,6 @@ pub fn collider_word(case: u32, n: u32, i: u32) -> u32 {
             COLLIDER_MARGIN,
             past(i, COLLIDER_MARGIN),
         ),
-        _ => one_in(owner, COLLIDER_SENSOR, 12),
+        _ => one_in(draw(owner, COLLIDER_SENSOR), 12),
     }
 }

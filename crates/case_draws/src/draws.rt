@@ -1,4 +1,4 @@
-// The draws that the cases are made of: by the key of what is made and the choice's number. The seed is 20262.
+// The draws that the cases are made of: by the key of what is made and the choice's number.
 ghost use Rattle.std.specs.Prelude.{◌<◌};
 
 // NaN, the infinities, the zeros, subnormal, huge and tiny numbers.
@@ -32,71 +32,102 @@ const COARSE: [u32; 7] = [
     0x4000_0000,
 ];
 
-// The lowest 32 bits.
-pub fn low(x: u64) -> u64
-    ensures { result < 4294967296 }
-{
-    x % 4294967296
+// Where a case's draws begin.
+const SEED: u32 = 20262;
+
+// The draws of other programs begin elsewhere.
+pub fn seeded(seed: u32, key: u32, slot: u32) -> u32 {
+    let a = slot
+        .wrapping_mul(2654435769)
+        .wrapping_add(key)
+        .wrapping_add(seed);
+    let b = a.wrapping_add(a >> 16).wrapping_mul(2246822519);
+    let c = b.wrapping_add(b >> 15).wrapping_mul(3266489917);
+    c.wrapping_add(c >> 16)
 }
 
 pub fn draw(key: u32, slot: u32) -> u32 {
-    let a = low(key as u64 + slot as u64 * 2654435769 + 20262);
-    let b = low((a + a / 65536) * 2246822519);
-    let c = low((b + b / 32768) * 3266489917);
-    low(c + c / 65536) as u32
+    seeded(SEED, key, slot)
+}
+
+// The next of a sequence of random words (Marsaglia's xorshift).
+pub fn xorshift(word: u32) -> u32 {
+    let a = word ^ word << 13;
+    let b = a ^ a >> 17;
+    b ^ b << 5
 }
 
 // The j-th number from a base on.
 pub fn slot(base: u32, j: u32) -> u32 {
-    low(base as u64 + j as u64) as u32
+    base.wrapping_add(j)
 }
 
 // How far i is past a base.
 pub fn past(i: u32, base: u32) -> u32 {
-    if i < base { 0 } else { i - base }
+    i.saturating_sub(base)
 }
 
-// 1 where the draw is a multiple of n.
-pub fn one_in(key: u32, slot: u32, n: u32) -> u32
-    requires { 0 < n }
+// One of a table.
+pub fn pick<T: Copy, const N: usize>(table: &[T; N], d: u32) -> T
+    requires { 0 < N }
 {
-    if draw(key, slot) % n == 0 { 1 } else { 0 }
+    table[d as usize % N]
 }
 
-// 0 where the draw is a multiple of n.
-pub fn all_but_one_in(key: u32, slot: u32, n: u32) -> u32
+// 1 where the draw d is a multiple of n.
+pub fn one_in(d: u32, n: u32) -> u32
     requires { 0 < n }
 {
-    if draw(key, slot) % n == 0 { 0 } else { 1 }
+    u32::from(d % n == 0)
+}
+
+// 0 where the draw d is a multiple of n.
+pub fn all_but_one_in(d: u32, n: u32) -> u32
+    requires { 0 < n }
+{
+    u32::from(d % n != 0)
+}
+
+// -2, -1, -0.5, 0, 0.5, 1 or 2.
+pub fn coarse(d: u32) -> u32 {
+    pick(&COARSE, d)
 }
 
 // Of either sign, from 2^-7 to 2.
-fn common(d: u32) -> u32 {
+pub fn common(d: u32) -> u32 {
     d / 0x8000_0000 * 0x8000_0000 + (120 + d / 0x80_0000 % 8) * 0x80_0000 + d % 0x80_0000
 }
 
-// A case's style: 0 floats are coarse, 1 common, 2 one in eight awkward.
-pub fn style(case: u32) -> u32 {
+// What a case's floats are.
+#[derive(Clone, Copy, Debug, PartialEq, Eq)]
+pub enum Floats {
+    Coarse,
+    Common,
+    // One in eight is awkward, else common.
+    Awkward,
+}
+
+pub fn style(case: u32) -> Floats {
     match draw(case, 1) % 8 {
-        0 => 2,
-        1..=4 => 0,
-        _ => 1,
+        0 => Floats::Awkward,
+        1..=4 => Floats::Coarse,
+        _ => Floats::Common,
     }
 }
 
 fn awkward(d: u32) -> u32 {
     if d % 8 == 0 {
-        AWKWARD[(d / 8 % 16) as usize]
+        pick(&AWKWARD, d / 8)
     } else {
         common(d)
     }
 }
 
-pub fn float(owner: u32, slot: u32, style: u32) -> u32 {
+pub fn float(owner: u32, slot: u32, style: Floats) -> u32 {
     let d = draw(owner, slot);
     match style {
-        0 => COARSE[(d % 7) as usize],
-        1 => common(d),
-        _ => awkward(d),
+        Floats::Coarse => coarse(d),
+        Floats::Common => common(d),
+        Floats::Awkward => awkward(d),
     }
 }

@@ -5,7 +5,7 @@
 pub mod bodies;
 pub mod colliders;
 pub mod draws;
-pub mod fill;
+pub mod graph;
 pub mod hash;
 pub mod line;
 pub mod manifolds;

@@ -2,7 +2,7 @@
 ghost use Rattle.std.specs.Prelude.{◌≤◌, ◌<◌};
 ghost use Rattle.rules.specs.Limits.{stored_points, proposed_points};
 
-use crate::draws::{draw, float, one_in, past, slot, style};
+use crate::draws::{Floats, draw, float, one_in, past, pick, slot, style};
 use crate::numbers::{
     MANIFOLD_COUNT, MANIFOLD_FRICTION, MANIFOLD_NORMAL, MANIFOLD_POINTS, MANIFOLDS, POINT_ANCHOR1,
     POINT_BASE_PENETRATION, POINT_FEATURE2, POINT_FEATURES, POINT_PENETRATION, POINT_POSITION,
@@ -44,78 +44,66 @@ const PENETRATIONS: [u32; 16] = [
     0x7fc0_0000,
 ];
 
-// Three floats each, one by its own draws.
-const NORMALS: [u32; 24] = [
-    0,
-    0,
-    0x3f80_0000,
-    0,
-    0,
-    0x3f80_0000,
-    0,
-    0x3f80_0000,
-    0,
-    0x3f19_999a,
-    0,
-    0x3f4c_cccd,
-    0,
-    0xbf80_0000,
-    0,
-    0x3f80_0000,
-    0,
-    0,
-    0x3f13_cd3a,
-    0x3f13_cd3a,
-    0x3f13_cd3a,
-    0,
-    0,
-    0,
+// The last is one by its own draws.
+const NORMALS: [[u32; 3]; 8] = [
+    [0, 0, 0x3f80_0000],
+    [0, 0, 0x3f80_0000],
+    [0, 0x3f80_0000, 0],
+    [0x3f19_999a, 0, 0x3f4c_cccd],
+    [0, 0xbf80_0000, 0],
+    [0x3f80_0000, 0, 0],
+    [0x3f13_cd3a, 0x3f13_cd3a, 0x3f13_cd3a],
+    [0, 0, 0],
 ];
 
-fn normal(owner: u32, j: u32, style: u32) -> u32 {
+fn normal(owner: u32, j: u32, style: Floats) -> u32 {
     let d = draw(owner, 70) % 8;
     if d == 7 {
         float(owner, slot(71, j), style)
     } else {
-        NORMALS[(d * 3 + j % 3) as usize]
+        pick(&pick(&NORMALS, d), j)
     }
 }
 
-fn grid(d: u32, j: u32) -> u32 {
+// A place on a grid with small offsets.
+pub fn grid(d: u32, j: u32) -> u32 {
     match j % 3 {
-        0 => OFFSETS[(d % 2 * 7) as usize],
-        1 => OFFSETS[(d % 8) as usize],
-        _ => OFFSETS[(d % 3) as usize],
+        0 => pick(&OFFSETS, d % 2 * 7),
+        1 => pick(&OFFSETS, d),
+        _ => pick(&OFFSETS, d % 3),
     }
 }
 
-// In coarse cases a grid with small offsets.
-fn anchor(owner: u32, j: u32, style: u32) -> u32 {
-    if style == 0 {
+// In coarse cases on the grid.
+fn anchor(owner: u32, j: u32, style: Floats) -> u32 {
+    if style == Floats::Coarse {
         grid(draw(owner, j), j)
     } else {
         float(owner, j, style)
     }
 }
 
-fn penetration(owner: u32, at: u32, style: u32) -> u32 {
+fn penetration(owner: u32, at: u32, style: Floats) -> u32 {
     let d = draw(owner, at);
     if d % 2 == 0 {
-        PENETRATIONS[(d / 2 % 16) as usize]
+        pick(&PENETRATIONS, d / 2)
     } else {
         float(owner, slot(100, at), style)
     }
 }
 
-// Few features, unknown ones among them; many; many and unknown ones; few known ones.
-fn feature(case: u32, owner: u32, at: u32) -> u32 {
-    let d = draw(owner, at);
-    match draw(case, 3) % 4 {
+// Few features, unknown ones among them; many; many and unknown ones; few known ones: one by the case's choice.
+pub fn feature_word(choice: u32, d: u32) -> u32 {
+    match choice % 4 {
         0 => d % 5 / 2 * 0x4000_0001,
         1 => 0xc000_0000 + d % 50,
         2 => if d % 3 == 0 { 0 } else { 0x4000_0000 + d % 50 },
         _ => 1 + d % 5,
     }
+}
+
+fn feature(case: u32, owner: u32, at: u32) -> u32 {
+    feature_word(draw(case, 3), draw(owner, at))
 }
 
 // How many more points are proposed than stored, at most, and the fewest that are too many to store.
@@ -188,7 +176,7 @@ pub fn proposal_word(case: u32, i: u32) -> u32 {
     let owner = draw(case, 50);
     let k = past(i, PROPOSAL_MANIFOLDS);
     match i {
-        PROPOSAL_HOOK => one_in(owner, i, 2),
+        PROPOSAL_HOOK => one_in(draw(owner, i), 2),
         PROPOSAL_COUNT => manifold_count(owner),
         _ => proposed_manifold_word(
             case,

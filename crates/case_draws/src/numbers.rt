@@ -141,6 +141,14 @@ pub const POINT_FEATURE2: u32 = layout::point::POINT_FEATURE2 as u32;
 
 pub const POINT_SIZE: u32 = layout::point::POINT_SIZE as u32;
 
+// The words that a solver writes.
+pub const IMPULSES: [u32; 4] = [
+    POINT_NORMAL_IMPULSE,
+    POINT_WARM_START_NORMAL_IMPULSE,
+    POINT_WARM_START_TANGENT_IMPULSE,
+    POINT_WARM_START_TANGENT_IMPULSE_Y,
+];
+
 // ---- A stored manifold.
 pub const MANIFOLD_COUNT: u32 = layout::manifold::MANIFOLD_COUNT as u32;
 
@@ -210,6 +218,8 @@ pub const CACHE_SIZE: u32 = layout::contact::CACHE_SIZE as u32;
 
 pub const CONTACT_MANIFOLDS: u32 = layout::contact::CONTACT_MANIFOLDS as u32;
 
+pub const CONTACT_FIRST_MANIFOLD: u32 = layout::contact::CONTACT_FIRST_MANIFOLD as u32;
+
 pub const CONTACT_SIZE: u32 = layout::contact::CONTACT_SIZE as u32;
 
 // The words of the colliders, and those from the place in the list as far as the cache.
@@ -221,9 +231,6 @@ pub const CONTACT_MIDDLE_SIZE: u32 = CONTACT_CACHE - CONTACT_PAIR_INDEX;
 pub const CONTACT_CACHED: u32 = CONTACT_CACHE + CACHE_ROTATION1;
 
 pub const CACHED_SIZE: u32 = CACHE_SIZE - CACHE_ROTATION1;
-
-// Behind the number of manifolds.
-pub const CONTACT_FIRST_MANIFOLD: u32 = CONTACT_MANIFOLDS + 1;
 
 // ---- The graph's head.
 pub const GRAPH_CAPACITY: u32 = layout::graph::GRAPH_CAPACITY as u32;

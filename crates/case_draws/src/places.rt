@@ -2,16 +2,38 @@
 
 // 0 past the end.
 pub fn word(row: &[u32], at: u32) -> u32 {
-    if (at as usize) < row.len() {
-        row[at as usize]
-    } else {
-        0
-    }
+    row.get(at as usize).copied().unwrap_or(0)
 }
 
 // Nothing past the end.
 pub fn put(row: &mut [u32], at: u32, word: u32) {
-    if (at as usize) < row.len() {
-        row[at as usize] = word;
+    if let Some(place) = row.get_mut(at as usize) {
+        *place = word;
     }
+}
+
+pub fn raise(row: &mut [u32], at: u32, by: u32) {
+    put(row, at, word(row, at).wrapping_add(by));
+}
+
+pub fn exchange(row: &mut [u32], a: u32, b: u32) {
+    let held = word(row, a);
+    put(row, a, word(row, b));
+    put(row, b, held);
+}
+
+// As many words from a place on, the i-th being what `words` gives of i.
+pub fn fill<F: Fn(u32) -> u32>(row: &mut [u32], from: u32, count: u32, words: F)
+    requires { F.IsAlwaysCallable words }
+{
+    for i in 0..count {
+        put(row, from.wrapping_add(i), words(i));
+    }
+}
+
+// The n-th record of a row of records of a size.
+pub fn fill_nth<F: Fn(u32) -> u32>(row: &mut [u32], n: u32, size: u32, words: F)
+    requires { F.IsAlwaysCallable words }
+{
+    fill(row, size.wrapping_mul(n), size, words);
 }

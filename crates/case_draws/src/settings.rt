@@ -1,7 +1,6 @@
 // A case's settings.
-ghost use Rattle.std.specs.Prelude.{◌<◌};
 
-use crate::draws::{all_but_one_in, draw, one_in, slot};
+use crate::draws::{all_but_one_in, draw, one_in, pick, slot};
 use crate::numbers::{
     SETTINGS_CONTACT_TOLERANCE, SETTINGS_FRICTION, SETTINGS_LENGTH_UNIT, SETTINGS_MATCH_CONTACTS,
     SETTINGS_MATCHING, SETTINGS_MATCHING_VALUE, SETTINGS_RECYCLE_COSINE, SETTINGS_RECYCLE_DISTANCE,
@@ -129,7 +128,7 @@ const COEFFICIENTS: [u32; 16] = [
 ];
 
 pub fn coefficient(owner: u32, slot: u32) -> u32 {
-    COEFFICIENTS[(draw(owner, slot) % 16) as usize]
+    pick(&COEFFICIENTS, draw(owner, slot))
 }
 
 pub fn rule(owner: u32, slot: u32) -> u32 {
@@ -141,12 +140,12 @@ pub fn setting_word(case: u32, i: u32) -> u32 {
     let owner = draw(case, 30);
     let d = draw(owner, i);
     match i {
-        SETTINGS_STEP_TIME => TIMES[(d % 16) as usize],
-        SETTINGS_LENGTH_UNIT => UNITS[(d % 16) as usize],
-        SETTINGS_CONTACT_TOLERANCE => TOLERANCES[(d % 16) as usize],
-        SETTINGS_RECYCLE_DISTANCE => DISTANCES[(d % 16) as usize],
-        SETTINGS_RECYCLE_COSINE => COSINES[(d % 16) as usize],
-        SETTINGS_MATCH_CONTACTS => all_but_one_in(owner, i, 4),
+        SETTINGS_STEP_TIME => pick(&TIMES, d),
+        SETTINGS_LENGTH_UNIT => pick(&UNITS, d),
+        SETTINGS_CONTACT_TOLERANCE => pick(&TOLERANCES, d),
+        SETTINGS_RECYCLE_DISTANCE => pick(&DISTANCES, d),
+        SETTINGS_RECYCLE_COSINE => pick(&COSINES, d),
+        SETTINGS_MATCH_CONTACTS => all_but_one_in(draw(owner, i), 4),
         SETTINGS_FRICTION | SETTINGS_RESTITUTION => coefficient(owner, i),
         SETTINGS_MATCHING => 1,
         SETTINGS_MATCHING_VALUE => 0,
@@ -156,7 +155,7 @@ pub fn setting_word(case: u32, i: u32) -> u32 {
 
 // Mark, coefficient, rule: a rule behind a mark of 0 is any word.
 pub fn coefficient_word(owner: u32, at: u32, j: u32) -> u32 {
-    let mark = one_in(owner, at, 2);
+    let mark = one_in(draw(owner, at), 2);
     match j {
         0 => mark,
         1 => coefficient(owner, slot(at, 1)),
@@ -190,7 +189,7 @@ const MARGINS: [u32; 16] = [
 
 pub fn margin_word(owner: u32, at: u32, j: u32) -> u32 {
     match j {
-        0 => one_in(owner, at, 3),
-        _ => MARGINS[(draw(owner, slot(at, 1)) % 16) as usize],
+        0 => one_in(draw(owner, at), 3),
+        _ => pick(&MARGINS, draw(owner, slot(at, 1))),
     }
 }

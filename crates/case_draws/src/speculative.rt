@@ -1,4 +1,5 @@
 // A contact's speculative distance.
+use crate::draws::pick;
 
 // 0, 0.1, 1, 2, -0.5, -0, 0.004, infinite, NaN.
 const SPECULATIVE: [u32; 16] = [
@@ -21,5 +22,5 @@ const SPECULATIVE: [u32; 16] = [
 ];
 
 pub fn speculative_word(d: u32) -> u32 {
-    SPECULATIVE[(d % 16) as usize]
+    pick(&SPECULATIVE, d)
 }

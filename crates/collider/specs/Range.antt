@@ -3,14 +3,10 @@
 use Rattle.std.specs.Prelude.{ℕ, ◌+◌, ◌*◌, Bool, true, cond, ◌&&◌, List, eqb, ltb, leb}
 use Rattle.rules.specs.Limits.{colliders, bodies}
 use Rattle.rules.specs.Numbers.{every}
-use Rattle.words.specs.Words.{word_at}
+use Rattle.words.specs.Words.{word_at, is_mark}
 use Rattle.layout.specs.Body.{body_friction, body_margin, body_size, body_speculative_maximum, body_static}
 use Rattle.layout.specs.Collider.{collider_body, collider_friction, collider_margin, collider_restitution, collider_sensor, collider_size}
 use Rattle.layout.specs.Settings.{settings_friction, settings_match_contacts, settings_matching, settings_restitution}
-
--- a mark is 0 or 1
-abbrev pub is_mark : ℕ → Bool
-is_mark w = ltb w 2
 
 -- a combining rule is 1 to 5
 abbrev pub is_rule : ℕ → Bool
@@ -49,6 +45,10 @@ collider_values_fit xs at =
 unfoldable pub collider_fits : List ℕ → ℕ → Bool
 unfolding collider_values_fit
 collider_fits xs at = where_set (word_at xs at) (collider_values_fit xs at)
+
+-- so many records, one after another
+abbrev pub records_fit : (List ℕ → ℕ → Bool) → ℕ → ℕ → List ℕ → Bool
+records_fit values_fit size count xs = every (λ n. where_set (word_at xs (n * size)) (values_fit xs (n * size))) count
 
 unfoldable pub colliders_fit : List ℕ → Bool
 colliders_fit xs = every (λ n. collider_fits xs (n * collider_size)) colliders

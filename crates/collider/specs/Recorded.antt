@@ -1,33 +1,27 @@
 -- What the words of settings, colliders and bodies record, as the plain values of `rules`. Definitions only.
-use Rattle.std.specs.Prelude.{ℕ, ◌+◌, ◌*◌, Bool, true, cond, List, eqb, Float}
-use Rattle.std.proofs.Math.Option.{Option, none, some}
-use Rattle.math.specs.declared.pose.Pose.{Pose}
+use Rattle.std.specs.Prelude.{ℕ, ◌+◌, ◌*◌, Bool, true, cond, List, Float, Option, None, Some}
 use Rattle.rules.specs.Inputs.{Coefficient, Settings, Collider, Body}
-use Rattle.words.specs.Words.{word_at, float_at, vec3_at, quat_at}
+use Rattle.words.specs.Words.{word_at, float_at, vec3_at, pose_at, mark_at, if_marked}
 use Rattle.layout.specs.Body.{body_angular_velocity, body_center_of_mass, body_friction, body_linear_velocity, body_margin, body_position, body_size, body_speculative_maximum, body_static, body_sweep_radius}
 use Rattle.layout.specs.Collider.{collider_body, collider_filters, collider_friction, collider_lower, collider_margin, collider_memberships, collider_position, collider_restitution, collider_sensor, collider_size, collider_upper}
 use Rattle.layout.specs.Settings.{settings_contact_tolerance, settings_friction, settings_length_unit, settings_match_contacts, settings_matching, settings_recycle_cosine, settings_recycle_distance, settings_restitution, settings_step_time}
-
--- a mark is read as set where it is 1
-abbrev pub mark_at : List ℕ → ℕ → Bool
-mark_at xs at = eqb (word_at xs at) 1
 
 -- a setting: a presence mark and a mark; where it is not named, what is said for it
 unfoldable pub mark_or : Bool → List ℕ → ℕ → Bool
 mark_or unnamed xs at = cond (mark_at xs at) (mark_at xs (at + 1)) unnamed
 
 -- a mark and a number, a float, or a coefficient with its rule
-unfoldable pub number_if_at : List ℕ → ℕ → Option ℕ
-number_if_at xs at = cond (mark_at xs at) (some (word_at xs (at + 1))) none
+abbrev pub number_if_at : List ℕ → ℕ → Option ℕ
+number_if_at = if_marked word_at
 
-unfoldable pub float_if_at : List ℕ → ℕ → Option Float
-float_if_at xs at = cond (mark_at xs at) (some (float_at xs (at + 1))) none
+abbrev pub float_if_at : List ℕ → ℕ → Option Float
+float_if_at = if_marked float_at
 
 abbrev pub coefficient_at : List ℕ → ℕ → Coefficient
 coefficient_at xs at = record { value = float_at xs at; rule = word_at xs (at + 1) }
 
-unfoldable pub coefficient_if_at : List ℕ → ℕ → Option Coefficient
-coefficient_if_at xs at = cond (mark_at xs at) (some (coefficient_at xs (at + 1))) none
+abbrev pub coefficient_if_at : List ℕ → ℕ → Option Coefficient
+coefficient_if_at = if_marked coefficient_at
 
 -- not named, matching is by place
 unfoldable pub settings_of : List ℕ → Settings
@@ -62,10 +56,7 @@ present_collider xs at =
 
 -- collider n, absent where its mark is not set
 unfoldable pub collider_at : List ℕ → ℕ → Option Collider
-collider_at xs n = cond (mark_at xs (n * collider_size)) (some (present_collider xs (n * collider_size))) none
-
-abbrev pub pose_at : List ℕ → ℕ → Pose
-pose_at xs at = record { position = vec3_at xs at; rotation = quat_at xs (at + 3) }
+collider_at xs n = cond (mark_at xs (n * collider_size)) (Some (present_collider xs (n * collider_size))) None
 
 unfoldable pub present_body : List ℕ → ℕ → Body
 present_body xs at =
@@ -82,4 +73,4 @@ present_body xs at =
     }
 
 unfoldable pub body_at : List ℕ → ℕ → Option Body
-body_at xs n = cond (mark_at xs (n * body_size)) (some (present_body xs (n * body_size))) none
+body_at xs n = cond (mark_at xs (n * body_size)) (Some (present_body xs (n * body_size))) None

@@ -1,7 +1,6 @@
 -- Rules 2 and 7: what the calls of src/overlap.rt and src/surface.rt give, put together. Assumes nothing.
-use Rattle.std.specs.Prelude.{◌≡◌, refl, Bool, Float}
+use Rattle.std.specs.Prelude.{◌≡◌, refl, Bool, Float, Option, None, Some}
 use Rattle.std.proofs.Common.{ap, ◌∙◌}
-use Rattle.std.proofs.Math.Option.{Option, none, some}
 use Rattle.rules.specs.Sides.{overlap}
 use Rattle.rules.specs.Surface.{or_else, first_given}
 use Rattle.collider.specs.Views.{plain_collider}
@@ -17,6 +16,6 @@ overlap_by_boxes c1 c2 s {b1} {b2} p q e =
     e ∙ ap (λ (b : ColliderAabb). intersecting b b2) p ∙ ap (intersecting (box_of c1)) q
 
 -- the first of two that is given, where the second never is
-pub alone : {A : Type 0} (o : Option A) (d : A) → or_else (first_given o none) d ≡ or_else o d
-alone none d = refl
-alone (some a) d = refl
+pub alone : {A : Type 0} (o : Option A) (d : A) → or_else (first_given o None) d ≡ or_else o d
+alone None d = refl
+alone (Some a) d = refl

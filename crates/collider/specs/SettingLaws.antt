@@ -5,9 +5,9 @@ use Rattle.std.proofs.Common.{◌∙◌}
 use Rattle.std.proofs.Math.Bool.{true, cond}
 use Rattle.std.proofs.Math.Dec.{eqb}
 use Rattle.rules.specs.Matching.{by_number, by_place, feature_rule}
-use Rattle.words.specs.Words.{word_at}
+use Rattle.words.specs.Words.{word_at, mark_at}
 use Rattle.layout.specs.Settings.{settings_matching}
-use Rattle.collider.specs.Recorded.{mark_at, mark_or, settings_of}
+use Rattle.collider.specs.Recorded.{mark_or, settings_of}
 
 module _ (unnamed : Bool) (xs : List ℕ) (at : ℕ) where
   pub setting_unnamed : word_at xs at ≡ 0 → mark_or unnamed xs at ≡ unnamed

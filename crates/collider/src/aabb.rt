@@ -5,7 +5,7 @@ ghost use Rattle.collider.specs.Boxes.{grown, intersecting};
 
 use math::vec::Vec3;
 
-#[derive(Clone, Copy)]
+#[derive(Clone, Copy, PartialEq, Debug)]
 pub struct ColliderAabb {
     pub min: Vec3,
     pub max: Vec3,

@@ -1,70 +1,60 @@
 // A collider by value, from its record. From avian's collider/mod.rs and collider_hierarchy/mod.rs.
-ghost use Rattle.std.specs.Prelude.{◌≡◌, ◌+◌, ◌≤◌, ◌<◌, length};
+ghost use Rattle.std.specs.Prelude.{◌≡◌, ◌<◌, length};
 ghost use Rattle.rules.specs.Limits.{colliders};
 ghost use Rattle.layout.specs.Collider.{collider_size, colliders_length};
-ghost use Rattle.collider.specs.Recorded.{present_collider, collider_at};
-ghost use Rattle.collider.specs.Views.{plain_collider, plain_collider_if};
+ghost use Rattle.collider.specs.Recorded.{collider_at};
+ghost use Rattle.collider.specs.Views.{recorded_collider, plain_collider_if};
 
-use crate::optional::{
-    OptionalBody, OptionalCoefficient, OptionalFloat, load_body_if, load_coefficient_if,
-    load_float_if, load_mark,
-};
+use crate::coefficient::Coefficient;
 use layout::collider::{
     COLLIDER_BODY, COLLIDER_FILTERS, COLLIDER_FRICTION, COLLIDER_LOWER, COLLIDER_MARGIN,
     COLLIDER_MEMBERSHIPS, COLLIDER_POSITION, COLLIDER_RESTITUTION, COLLIDER_SENSOR, COLLIDER_SIZE,
     COLLIDER_UPPER,
 };
 use math::vec::Vec3;
-use words::row::load_word;
-use words::vec::load_vec3;
+use words::load::{FromRow, load, load_present};
 
-#[derive(Clone, Copy)]
+#[derive(Clone, Copy, PartialEq, Debug)]
 pub struct ColliderRecord {
-    pub body: OptionalBody,
+    pub body: Option<u32>,
     pub lower: Vec3,
     pub upper: Vec3,
     pub position: Vec3,
     pub memberships: u32,
     pub filters: u32,
-    pub friction: OptionalCoefficient,
-    pub restitution: OptionalCoefficient,
-    pub margin: OptionalFloat,
+    pub friction: Option<Coefficient>,
+    pub restitution: Option<Coefficient>,
+    pub margin: Option<f32>,
     pub sensor: bool,
 }
 
-#[derive(Clone, Copy)]
-pub enum FoundCollider {
-    Present(ColliderRecord),
-    Absent,
-}
-
 // The record at a place, whose presence mark is set.
-fn load_present_collider(words: &[u32], at: usize) -> ColliderRecord
-    requires { at + collider_size ≤ length words.now }
-    ensures { plain_collider result ≡ present_collider words.now at }
-{
-    ColliderRecord {
-        body: load_body_if(words, at + COLLIDER_BODY),
-        lower: load_vec3(words, at + COLLIDER_LOWER),
-        upper: load_vec3(words, at + COLLIDER_UPPER),
-        position: load_vec3(words, at + COLLIDER_POSITION),
-        memberships: load_word(words, at + COLLIDER_MEMBERSHIPS),
-        filters: load_word(words, at + COLLIDER_FILTERS),
-        friction: load_coefficient_if(words, at + COLLIDER_FRICTION),
-        restitution: load_coefficient_if(words, at + COLLIDER_RESTITUTION),
-        margin: load_float_if(words, at + COLLIDER_MARGIN),
-        sensor: load_mark(words, at + COLLIDER_SENSOR),
+impl FromRow for ColliderRecord {
+    ghost size = { collider_size };
+
+    ghost at = { recorded_collider };
+
+    #[tactic(auto, unfolding(crate::specs::Views::recorded_collider))]
+    fn from_row(row: &[u32], from: usize) -> ColliderRecord {
+        ColliderRecord {
+            body: load(row, from + COLLIDER_BODY),
+            lower: load(row, from + COLLIDER_LOWER),
+            upper: load(row, from + COLLIDER_UPPER),
+            position: load(row, from + COLLIDER_POSITION),
+            memberships: load(row, from + COLLIDER_MEMBERSHIPS),
+            filters: load(row, from + COLLIDER_FILTERS),
+            friction: load(row, from + COLLIDER_FRICTION),
+            restitution: load(row, from + COLLIDER_RESTITUTION),
+            margin: load(row, from + COLLIDER_MARGIN),
+            sensor: load(row, from + COLLIDER_SENSOR),
+        }
     }
 }
 
 // Collider n, which may be absent.
-pub fn load_collider(words: &[u32], n: u32) -> FoundCollider
+pub fn load_collider(words: &[u32], n: u32) -> Option<ColliderRecord>
     requires { (n < colliders) × (length words.now ≡ colliders_length) }
     ensures { plain_collider_if result ≡ collider_at words.now n }
 {
-    let at = n as usize * COLLIDER_SIZE;
-    if load_mark(words, at) {
-        return FoundCollider::Present(load_present_collider(words, at));
-    }
-    FoundCollider::Absent
+    load_present(words, n as usize * COLLIDER_SIZE)
 }

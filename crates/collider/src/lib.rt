@@ -3,9 +3,9 @@
 
 pub mod aabb;
 pub mod body_record;
+pub mod coefficient;
 pub mod collider_record;
 pub mod layers;
-pub mod optional;
 pub mod overlap;
 pub mod range;
 pub mod settings;

@@ -1,12 +1,14 @@
 // Refusal 2 of settings, colliders and bodies: a mark not 0 or 1, a combining rule not 1 to 5, a body number of 128 or more.
 // Nothing behind a mark of 0 is tested.
-ghost use Rattle.std.specs.Prelude.{◌≡◌, ◌+◌, ◌≤◌, ◌<◌, length};
+ghost use Rattle.std.specs.Prelude.{◌≡◌, ℕ, Bool, ◌+◌, ◌*◌, ◌≤◌, ◌<◌, List, length};
 ghost use Rattle.words.specs.Words.{word_at};
 ghost use Rattle.layout.specs.Body.{bodies_length, body_size};
 ghost use Rattle.layout.specs.Collider.{collider_size, colliders_length};
 ghost use Rattle.layout.specs.Settings.{settings_length};
-ghost use Rattle.collider.specs.Range.{is_mark, is_rule, where_set, coefficient_fits, setting_fits, settings_fit, collider_fits, colliders_fit, body_fits, bodies_fit, body_number_fits, collider_values_fit, body_values_fit};
+ghost use Rattle.collider.specs.Range.{is_rule, where_set, coefficient_fits, setting_fits, settings_fit, records_fit, colliders_fit, bodies_fit, body_number_fits, collider_values_fit, body_values_fit};
 
+use crate::body_record::BodyRecord;
+use crate::collider_record::ColliderRecord;
 use layout::body::{BODY_FRICTION, BODY_MARGIN, BODY_SIZE, BODY_SPECULATIVE_MAXIMUM, BODY_STATIC};
 use layout::collider::{
     COLLIDER_BODY, COLLIDER_FRICTION, COLLIDER_MARGIN, COLLIDER_RESTITUTION, COLLIDER_SENSOR,
@@ -16,13 +18,7 @@ use layout::limits::{BODIES, COLLIDERS};
 use layout::settings::{
     SETTINGS_FRICTION, SETTINGS_MATCH_CONTACTS, SETTINGS_MATCHING, SETTINGS_RESTITUTION,
 };
-
-fn mark_fits(words: &[u32], at: usize) -> bool
-    requires { at < length words.now }
-    ensures { result ≡ is_mark (word_at words.now at) }
-{
-    words[at] < 2
-}
+use words::row::mark_fits;
 
 fn rule_fits(words: &[u32], at: usize) -> bool
     requires { at < length words.now }
@@ -78,73 +74,87 @@ pub fn settings_fit(words: &[u32]) -> bool
                 && setting_fits(words, SETTINGS_MATCHING)))
 }
 
-fn collider_values_fit(words: &[u32], at: usize) -> bool
-    requires { at + collider_size ≤ length words.now }
-    ensures { result ≡ collider_values_fit words.now at }
-{
-    body_number_fits(words, at + COLLIDER_BODY)
-        && (coefficient_fits(words, at + COLLIDER_FRICTION)
-            && (coefficient_fits(words, at + COLLIDER_RESTITUTION)
-                && (mark_fits(words, at + COLLIDER_MARGIN)
-                    && mark_fits(words, at + COLLIDER_SENSOR))))
+// A record that begins with its presence mark.
+trait Record {
+    ghost SIZE: { ℕ };
+
+    ghost values_fit: { List ℕ → ℕ → Bool };
+
+    const SIZE: usize;
+
+    // What is asked of a record that is present.
+    fn values_fit(words: &[u32], at: usize) -> bool
+        requires { at + SIZE ≤ length words.now }
+        ensures { result ≡ values_fit words.now at };
 }
 
-fn collider_fits(words: &[u32], at: usize) -> bool
-    requires { at + collider_size ≤ length words.now }
-    ensures { result ≡ collider_fits words.now at }
+impl Record for ColliderRecord {
+    ghost SIZE = { collider_size };
+
+    ghost values_fit = { collider_values_fit };
+
+    const SIZE: usize = COLLIDER_SIZE;
+
+    fn values_fit(words: &[u32], at: usize) -> bool {
+        body_number_fits(words, at + COLLIDER_BODY)
+            && (coefficient_fits(words, at + COLLIDER_FRICTION)
+                && (coefficient_fits(words, at + COLLIDER_RESTITUTION)
+                    && (mark_fits(words, at + COLLIDER_MARGIN)
+                        && mark_fits(words, at + COLLIDER_SENSOR))))
+    }
+}
+
+impl Record for BodyRecord {
+    ghost SIZE = { body_size };
+
+    ghost values_fit = { body_values_fit };
+
+    const SIZE: usize = BODY_SIZE;
+
+    fn values_fit(words: &[u32], at: usize) -> bool {
+        mark_fits(words, at + BODY_STATIC)
+            && (coefficient_fits(words, at + BODY_FRICTION)
+                && (mark_fits(words, at + BODY_MARGIN)
+                    && mark_fits(words, at + BODY_SPECULATIVE_MAXIMUM)))
+    }
+}
+
+fn record_fits<R: Record>(words: &[u32], at: usize) -> bool
+    requires { (0 < R.SIZE) × (at + R.SIZE ≤ length words.now) }
+    ensures { result ≡ where_set (word_at words.now at) (R.values_fit words.now at) }
 {
     let mark = words[at];
     if mark != 1 {
         return mark == 0;
     }
-    collider_values_fit(words, at)
+    R::values_fit(words, at)
 }
 
+// So many records, one after another.
+fn records_fit<R: Record>(words: &[u32], count: usize) -> bool
+    requires { (0 < R.SIZE) × (length words.now ≡ count * R.SIZE) }
+    ensures { result ≡ records_fit R.values_fit R.SIZE count words.now }
+{
+    for n in 0..count {
+        if !record_fits::<R>(words, n * R::SIZE) {
+            return false;
+        }
+    }
+    true
+}
+
+#[tactic(auto, unfolding(crate::specs::Range::colliders_fit, crate::specs::Range::collider_fits))]
 pub fn colliders_fit(words: &[u32]) -> bool
     requires { length words.now ≡ colliders_length }
     ensures { result ≡ colliders_fit words.now }
 {
-    let mut n: u32 = 0;
-    while n < COLLIDERS {
-        if !collider_fits(words, n as usize * COLLIDER_SIZE) {
-            return false;
-        }
-        n += 1;
-    }
-    true
+    records_fit::<ColliderRecord>(words, COLLIDERS as usize)
 }
 
-fn body_values_fit(words: &[u32], at: usize) -> bool
-    requires { at + body_size ≤ length words.now }
-    ensures { result ≡ body_values_fit words.now at }
-{
-    mark_fits(words, at + BODY_STATIC)
-        && (coefficient_fits(words, at + BODY_FRICTION)
-            && (mark_fits(words, at + BODY_MARGIN)
-                && mark_fits(words, at + BODY_SPECULATIVE_MAXIMUM)))
-}
-
-fn body_fits(words: &[u32], at: usize) -> bool
-    requires { at + body_size ≤ length words.now }
-    ensures { result ≡ body_fits words.now at }
-{
-    let mark = words[at];
-    if mark != 1 {
-        return mark == 0;
-    }
-    body_values_fit(words, at)
-}
-
+#[tactic(auto, unfolding(crate::specs::Range::bodies_fit, crate::specs::Range::body_fits))]
 pub fn bodies_fit(words: &[u32]) -> bool
     requires { length words.now ≡ bodies_length }
     ensures { result ≡ bodies_fit words.now }
 {
-    let mut n: u32 = 0;
-    while n < BODIES {
-        if !body_fits(words, n as usize * BODY_SIZE) {
-            return false;
-        }
-        n += 1;
-    }
-    true
+    records_fit::<BodyRecord>(words, BODIES as usize)
 }

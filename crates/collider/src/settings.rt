@@ -4,15 +4,15 @@ ghost use Rattle.layout.specs.Settings.{settings_length};
 ghost use Rattle.collider.specs.Recorded.{settings_of};
 ghost use Rattle.collider.specs.Views.{plain_settings};
 
-use crate::optional::{Coefficient, load_coefficient, load_mark, load_mark_or};
+use crate::coefficient::Coefficient;
 use layout::settings::{
     SETTINGS_CONTACT_TOLERANCE, SETTINGS_FRICTION, SETTINGS_LENGTH_UNIT, SETTINGS_MATCH_CONTACTS,
     SETTINGS_MATCHING, SETTINGS_RECYCLE_COSINE, SETTINGS_RECYCLE_DISTANCE, SETTINGS_RESTITUTION,
     SETTINGS_STEP_TIME,
 };
-use words::row::load_float;
+use words::load::load;
 
-#[derive(Clone, Copy)]
+#[derive(Clone, Copy, PartialEq, Debug)]
 pub struct Settings {
     pub step_time: f32,
     pub length_unit: f32,
@@ -33,14 +33,14 @@ pub fn load_settings(words: &[u32]) -> Settings
     ensures { plain_settings result ≡ settings_of words.now }
 {
     Settings {
-        step_time: load_float(words, SETTINGS_STEP_TIME),
-        length_unit: load_float(words, SETTINGS_LENGTH_UNIT),
-        contact_tolerance: load_float(words, SETTINGS_CONTACT_TOLERANCE),
-        recycle_distance: load_float(words, SETTINGS_RECYCLE_DISTANCE),
-        recycle_cosine: load_float(words, SETTINGS_RECYCLE_COSINE),
-        match_contacts: load_mark(words, SETTINGS_MATCH_CONTACTS),
-        default_friction: load_coefficient(words, SETTINGS_FRICTION),
-        default_restitution: load_coefficient(words, SETTINGS_RESTITUTION),
-        by_place: load_mark_or(words, SETTINGS_MATCHING, true),
+        step_time: load(words, SETTINGS_STEP_TIME),
+        length_unit: load(words, SETTINGS_LENGTH_UNIT),
+        contact_tolerance: load(words, SETTINGS_CONTACT_TOLERANCE),
+        recycle_distance: load(words, SETTINGS_RECYCLE_DISTANCE),
+        recycle_cosine: load(words, SETTINGS_RECYCLE_COSINE),
+        match_contacts: load(words, SETTINGS_MATCH_CONTACTS),
+        default_friction: load(words, SETTINGS_FRICTION),
+        default_restitution: load(words, SETTINGS_RESTITUTION),
+        by_place: load::<Option<bool>>(words, SETTINGS_MATCHING).unwrap_or(true),
     }
 }

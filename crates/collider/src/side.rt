@@ -1,18 +1,17 @@
 // Rule 3 of one pair's update: what is read of a side's body.
-ghost use Rattle.std.specs.Prelude.{◌≡◌};
-ghost use Rattle.std.proofs.Math.Option.{none, some};
+ghost use Rattle.std.specs.Prelude.{◌≡◌, None, Some};
 ghost use Rattle.rules.specs.Sides.{side_of};
 ghost use Rattle.collider.specs.Views.{plain_collider, plain_body, plain_body_if, plain_side};
 
-use crate::body_record::{BodyRecord, FoundBody};
+use crate::body_record::BodyRecord;
+use crate::coefficient::Coefficient;
 use crate::collider_record::ColliderRecord;
-use crate::optional::{OptionalCoefficient, OptionalFloat};
 use math::pose::Pose;
 use math::vec::Vec3;
 
-#[derive(Clone, Copy)]
+#[derive(Clone, Copy, PartialEq, Debug)]
 pub struct Side {
-    // The body is there.
+    // The body is there. A mark beside values, since the formulas use an absent body's zeros too.
     pub present: bool,
     // A static body.
     pub is_static: bool,
@@ -23,14 +22,14 @@ pub struct Side {
     pub pose: Pose,
     pub linear_velocity: Vec3,
     pub angular_velocity: Vec3,
-    pub friction: OptionalCoefficient,
-    pub margin: OptionalFloat,
-    pub speculative_maximum: OptionalFloat,
+    pub friction: Option<Coefficient>,
+    pub margin: Option<f32>,
+    pub speculative_maximum: Option<f32>,
     pub sweep_radius: f32,
 }
 
 fn present_side(c: ColliderRecord, b: BodyRecord) -> Side
-    ensures { plain_side result ≡ side_of (plain_collider c) (some (plain_body b)) }
+    ensures { plain_side result ≡ side_of (plain_collider c) (Some (plain_body b)) }
 {
     let pose = b.pose;
     let position = pose.position;
@@ -43,7 +42,7 @@ fn present_side(c: ColliderRecord, b: BodyRecord) -> Side
     Side {
         present: true,
         is_static: b.is_static,
-        offset: c.position.sub(position),
+        offset: c.position - position,
         world_com: rotation.mul_vec3(b.center_of_mass),
         pose,
         linear_velocity,
@@ -57,7 +56,7 @@ fn present_side(c: ColliderRecord, b: BodyRecord) -> Side
 
 // An absent body gives zeros (offset to the collider too), identity rotation and not static.
 fn absent_side(c: ColliderRecord) -> Side
-    ensures { plain_side result ≡ side_of (plain_collider c) none }
+    ensures { plain_side result ≡ side_of (plain_collider c) None }
 {
     Side {
         present: false,
@@ -67,18 +66,18 @@ fn absent_side(c: ColliderRecord) -> Side
         pose: Pose::IDENTITY,
         linear_velocity: Vec3::ZERO,
         angular_velocity: Vec3::ZERO,
-        friction: OptionalCoefficient::Absent,
-        margin: OptionalFloat::Absent,
-        speculative_maximum: OptionalFloat::Absent,
+        friction: None,
+        margin: None,
+        speculative_maximum: None,
         sweep_radius: 0.0,
     }
 }
 
-pub fn side_of(c: ColliderRecord, b: FoundBody) -> Side
+pub fn side_of(c: ColliderRecord, b: Option<BodyRecord>) -> Side
     ensures { plain_side result ≡ side_of (plain_collider c) (plain_body_if b) }
 {
     match b {
-        FoundBody::Present(body) => present_side(c, body),
-        FoundBody::Absent => absent_side(c),
+        Some(body) => present_side(c, body),
+        None => absent_side(c),
     }
 }

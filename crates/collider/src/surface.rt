@@ -1,67 +1,35 @@
 // Rule 7 of one pair's update: friction, restitution and margin of a side, and how two coefficients combine.
 ghost use Rattle.std.specs.Prelude.{◌≡◌, cond, ltb};
-ghost use Rattle.rules.specs.Surface.{or_else, first_given, ruled, combine, friction_of, restitution_of, margin_of};
-ghost use Rattle.collider.specs.Views.{plain_coefficient, plain_coefficient_if, plain_settings, plain_collider, plain_side};
+ghost use Rattle.rules.specs.Surface.{ruled, combine, friction_of, restitution_of, margin_of};
+ghost use Rattle.collider.specs.Views.{plain_coefficient, plain_settings, plain_collider, plain_side};
 
+use crate::coefficient::Coefficient;
 use crate::collider_record::ColliderRecord;
-use crate::optional::{Coefficient, OptionalCoefficient, OptionalFloat};
 use crate::settings::Settings;
 use crate::side::Side;
 use math::choose::{maximum, minimum};
 use math::constants::HALF;
 use math::root::root;
 
-// The first that is given, else the default.
-fn first_given(
-    own: OptionalCoefficient,
-    other: OptionalCoefficient,
-    default: Coefficient,
-) -> Coefficient
-    ensures { plain_coefficient result ≡ or_else (first_given (plain_coefficient_if own) (plain_coefficient_if other)) (plain_coefficient default) }
-{
-    match own {
-        OptionalCoefficient::Given(c) => c,
-        OptionalCoefficient::Absent => match other {
-            OptionalCoefficient::Given(c) => c,
-            OptionalCoefficient::Absent => default,
-        },
-    }
-}
-
 // The collider's, else the body's, else the default.
 pub fn friction_of(s: Settings, c: ColliderRecord, a: Side) -> Coefficient
     ensures { plain_coefficient result ≡ friction_of (plain_settings s) (plain_collider c) (plain_side a) }
 {
-    let own = c.friction;
-    let body = a.friction;
-    let default = s.default_friction;
-    first_given(own, body, default)
+    c.friction.or(a.friction).unwrap_or(s.default_friction)
 }
 
 // The collider's, else the default: never the body's.
 pub fn restitution_of(s: Settings, c: ColliderRecord) -> Coefficient
     ensures { plain_coefficient result ≡ restitution_of (plain_settings s) (plain_collider c) }
 {
-    let own = c.restitution;
-    match own {
-        OptionalCoefficient::Given(given) => given,
-        OptionalCoefficient::Absent => s.default_restitution,
-    }
+    c.restitution.unwrap_or(s.default_restitution)
 }
 
 // The collider's, else the body's, else 0.
 pub fn margin_of(c: ColliderRecord, a: Side) -> f32
     ensures { result ≡ margin_of (plain_collider c) (plain_side a) }
 {
-    let own = c.margin;
-    let body = a.margin;
-    match own {
-        OptionalFloat::Given(x) => x,
-        OptionalFloat::Absent => match body {
-            OptionalFloat::Given(x) => x,
-            OptionalFloat::Absent => 0.0,
-        },
-    }
+    c.margin.or(a.margin).unwrap_or(0.0)
 }
 
 // 1 (a + b) × 0.5, 2 root of a × b, 3 minimum, 4 product, 5 maximum.
@@ -77,10 +45,11 @@ fn ruled(rule: u32, a: f32, b: f32) -> f32
     }
 }
 
+#[tactic(auto, using(crate::proofs::GivenLaws::larger))]
 fn larger_rule(a: u32, b: u32) -> u32
     ensures { result ≡ cond (ltb a b) b a }
 {
-    if a < b { b } else { a }
+    a.max(b)
 }
 
 // By the larger rule number.

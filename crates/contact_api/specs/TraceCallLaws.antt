@@ -1,13 +1,14 @@
 -- The C function for a line of a trace, from what its parts answer; its promise has one outcome. Assumes nothing.
-use Rattle.std.specs.Prelude.{ℕ, ◌<◌, ◌≡◌, refl, true, false, cond, List, [], ◌∷◌, length, set}
+use Rattle.std.specs.Prelude.{ℕ, ◌<◌, ◌≡◌, refl, true, false, cond, List, [], ◌∷◌, length, set, Result, Option}
 use Rattle.std.proofs.Common.{arith, sym, ap, subst, ◌∙◌, eqb-true, length-set}
 use Rattle.step.specs.Step.{long}
 use Rattle.trace_player.specs.Played.{Lent, plain_answer, after_line, LinePlayed}
 use Rattle.trace_player.specs.PlayLaws.{first_true, second_true}
-use Rattle.trace_player.specs.declared.play.PlayAnswer.{PlayAnswer}
 use Rattle.trace_player.specs.declared.player.Player.{Player}
 use Rattle.contact_api.specs.Layout.{player_length, play_answer_length}
 use Rattle.contact_api.specs.TraceCall.{player_of, play_number, player_row, play_row, own_play_rows, AnswerTold, PlayLineCalled}
+use Rattle.contact_types.specs.declared.refusal.Refusal.{Refusal}
+use Rattle.trace_player.specs.declared.play.PlayedLine.{PlayedLine}
 
 -- ---- words stored one by one
 pub two_stored : (row : List ℕ) → length row ≡ play_answer_length → (a b : ℕ) → set (set row 0 a) 1 b ≡ a ∷ b ∷ []
@@ -38,14 +39,14 @@ pub own_lengths : (p b : List ℕ) → own_play_rows p b ≡ true → (length p 
 own_lengths p b e =
     (eqb-true (length p) player_length (first_true (long p player_length) (long b play_answer_length) e), eqb-true (length b) play_answer_length (second_true (long p player_length) (long b play_answer_length) e))
 
-pub played_for : {xs : List ℕ} {p q : Player} {l l' : Lent} {r : PlayAnswer} → p ≡ q → LinePlayed xs p l l' r → LinePlayed xs q l l' r
+pub played_for : {xs : List ℕ} {p q : Player} {l l' : Lent} {r : Result (Option PlayedLine) Refusal} → p ≡ q → LinePlayed xs p l l' r → LinePlayed xs q l l' r
 played_for {xs} {p} {q} {l} {l'} {r} e m = subst (λ (o : Player). LinePlayed xs o l l' r) e m
 
 module _ (xs p : List ℕ) (l : Lent) (b : List ℕ) where
   pub own_refused : own_play_rows p b ≡ false → PlayLineCalled xs p l b p l b 1
   own_refused e = record { number = rw e; player = rw e; lent = rw e; answer = rw e }
 
-  pub line_called : (l' : Lent) (r : PlayAnswer) (p' b' : List ℕ) (n : ℕ) → own_play_rows p b ≡ true → LinePlayed xs (player_of p) l l' r → AnswerTold (plain_answer r) p b p' b' n
+  pub line_called : (l' : Lent) (r : Result (Option PlayedLine) Refusal) (p' b' : List ℕ) (n : ℕ) → own_play_rows p b ≡ true → LinePlayed xs (player_of p) l l' r → AnswerTold (plain_answer r) p b p' b' n
       → PlayLineCalled xs p l b p' l' b' n
   line_called l' r p' b' n e m t =
       record {

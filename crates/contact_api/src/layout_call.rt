@@ -1,9 +1,11 @@
 // The lengths of the lent rows for a capacity, and limits and places by number: docs/BUFFERS.md names each.
 ghost use Rattle.std.specs.Prelude.{◌≡◌, ◌≤◌};
 ghost use Rattle.rules.specs.Limits.{most_contacts};
-ghost use Rattle.contact_api.specs.Calls.{LengthsCalled, LayoutCalled};
+ghost use Rattle.contact_graph.specs.Promises.{done_answer};
+ghost use Rattle.contact_api.specs.Calls.{done_number, LengthsCalled, LayoutCalled};
 ghost use Rattle.contact_api.specs.Layout.{lengths_words, layout_words};
 
+use crate::done::done_number;
 use crate::graph_calls::ADD_ANSWER_LENGTH;
 use crate::graph_calls::LOOK_UP_ANSWER_LENGTH;
 use crate::prune_call::PRUNE_ANSWER_LENGTH;
@@ -12,6 +14,7 @@ use crate::step_call::STEP_ANSWER_LENGTH;
 use crate::trace_call::PLAY_ANSWER_LENGTH;
 use crate::trace_call::PLAYER_LENGTH;
 use contact_graph::lay_out::graph_length;
+use contact_types::refusal::Refusal;
 use data_structures::bit_vec::blocks;
 use layout::body::BODIES_LENGTH;
 use layout::body::BODY_ANGULAR_VELOCITY;
@@ -234,21 +237,27 @@ fn lengths_words(capacity: usize) -> [u32; LENGTHS_LENGTH]
     ]
 }
 
-pub fn sardinerod_lengths(capacity: u32, answer: &mut [u32]) -> u32
-    ensures { LengthsCalled capacity answer.old answer.new result }
+fn lengths_called(capacity: u32, answer: &mut [u32]) -> Result<(), Refusal>
+    ensures { LengthsCalled capacity answer.old answer.new (done_number (done_answer result)) }
 {
     if answer.len() != LENGTHS_LENGTH {
-        return 1;
+        return Err(Refusal::WrongLength);
     }
     if capacity == 0 {
-        return 1;
+        return Err(Refusal::WrongLength);
     }
     if MOST_CONTACTS < capacity as usize {
-        return 1;
+        return Err(Refusal::WrongLength);
     }
     let words = lengths_words(capacity as usize);
     store_words(answer, 0, &words);
-    0
+    Ok(())
+}
+
+pub fn sardinerod_lengths(capacity: u32, answer: &mut [u32]) -> u32
+    ensures { LengthsCalled capacity answer.old answer.new result }
+{
+    done_number(lengths_called(capacity, answer))
 }
 
 fn layout_words() -> [u32; LAYOUT_LENGTH]
@@ -257,13 +266,19 @@ fn layout_words() -> [u32; LAYOUT_LENGTH]
     LAYOUT
 }
 
-pub fn sardinerod_layout(answer: &mut [u32]) -> u32
-    ensures { LayoutCalled answer.old answer.new result }
+fn layout_called(answer: &mut [u32]) -> Result<(), Refusal>
+    ensures { LayoutCalled answer.old answer.new (done_number (done_answer result)) }
 {
     if answer.len() != LAYOUT_LENGTH {
-        return 1;
+        return Err(Refusal::WrongLength);
     }
     let words = layout_words();
     store_words(answer, 0, &words);
-    0
+    Ok(())
+}
+
+pub fn sardinerod_layout(answer: &mut [u32]) -> u32
+    ensures { LayoutCalled answer.old answer.new result }
+{
+    done_number(layout_called(answer))
 }

@@ -1,13 +1,17 @@
 // A line of a trace.
-ghost use Rattle.std.specs.Prelude.{◌≡◌, ◌&&◌, [], ◌∷◌, length};
-ghost use Rattle.words.specs.Words.{mark_word};
+ghost use Rattle.std.specs.Prelude.{◌≡◌, ◌&&◌, [], ◌∷◌, length, Ok};
 ghost use Rattle.step.specs.Step.{given, rows, long};
 ghost use Rattle.trace_player.specs.Played.{lent, plain_answer};
+ghost use Rattle.contact_graph.specs.Promises.{done_answer};
+ghost use Rattle.contact_api.specs.Calls.{done_number};
 ghost use Rattle.contact_api.specs.Layout.{player_length, play_answer_length};
 ghost use Rattle.contact_api.specs.TraceCall.{player_of, player_words, AnswerTold, PlayLineCalled};
 
-use trace_player::play::{PlayAnswer, play_line};
+use crate::done::done_number;
+use contact_types::refusal::Refusal;
+use trace_player::play::{PlayedLine, play_line};
 use trace_player::player::Player;
+use words::row::mark_word;
 
 pub const PLAYER_LENGTH: usize = 5;
 
@@ -33,21 +37,15 @@ fn load_player(row: &[u64]) -> Player
     }
 }
 
-fn mark(b: bool) -> u64
-    ensures { result ≡ mark_word b }
-{
-    if b { 1 } else { 0 }
-}
-
 fn store_player(row: &mut [u64], p: Player)
     requires { length row.old ≡ player_length }
     ensures { row.new ≡ player_words p }
 {
     row[0] = p.place as u64;
     row[1] = p.stretch as u64;
-    row[2] = mark(p.after_point);
-    row[3] = mark(p.settings);
-    row[4] = mark(p.fits);
+    row[2] = u64::from(mark_word(p.after_point));
+    row[3] = u64::from(mark_word(p.settings));
+    row[4] = u64::from(mark_word(p.fits));
 }
 
 fn store_answer(row: &mut [u64], ended: u64, written: u64)
@@ -58,24 +56,31 @@ fn store_answer(row: &mut [u64], ended: u64, written: u64)
     row[1] = written;
 }
 
-// The number, the player's row and the row for the answer.
-fn tell(r: PlayAnswer, player: &mut [u64], answer: &mut [u64]) -> u32
+// A line that is played, or the trace's end: the player's row and the row for the answer.
+fn tell_played(played: Option<PlayedLine>, player: &mut [u64], answer: &mut [u64])
     requires { (length player.old ≡ player_length) × (length answer.old ≡ play_answer_length) }
-    ensures { AnswerTold (plain_answer r) player.old answer.old player.new answer.new result }
+    ensures { AnswerTold (plain_answer (Ok played)) player.old answer.old player.new answer.new 0 }
 {
-    match r {
-        PlayAnswer::Played(line) => {
-            let next = line.player;
-            store_player(player, next);
+    match played {
+        Some(line) => {
+            store_player(player, line.player);
             store_answer(answer, 0, line.written as u64);
-            0
         }
-        PlayAnswer::Ended => {
-            store_answer(answer, 1, 0);
-            0
-        }
-        PlayAnswer::Refused(refusal) => refusal.number(),
+        None => store_answer(answer, 1, 0),
     }
+}
+
+// The player's row and the row for the answer, or the refusal.
+fn tell(
+    r: Result<Option<PlayedLine>, Refusal>,
+    player: &mut [u64],
+    answer: &mut [u64],
+) -> Result<(), Refusal>
+    requires { (length player.old ≡ player_length) × (length answer.old ≡ play_answer_length) }
+    ensures { AnswerTold (plain_answer r) player.old answer.old player.new answer.new (done_number (done_answer result)) }
+{
+    tell_played(r?, player, answer);
+    Ok(())
 }
 
 pub fn sardinerod_play_line(
@@ -96,8 +101,9 @@ pub fn sardinerod_play_line(
 ) -> u32
     ensures { PlayLineCalled trace.now player.old (lent graph.old (given settings.old colliders.old bodies.old proposals.old shares.old) (rows bits.old events.old changes.old distances.old) out.old) answer.old player.new (lent graph.new (given settings.new colliders.new bodies.new proposals.new shares.new) (rows bits.new events.new changes.new distances.new) out.new) answer.new result }
 {
+    // Refused here: an inner function would repeat the fourteen parameters.
     if !own_rows(player, answer) {
-        return 1;
+        return Refusal::WrongLength.number();
     }
     let r = play_line(
         trace,
@@ -114,5 +120,5 @@ pub fn sardinerod_play_line(
         distances,
         out,
     );
-    tell(r, player, answer)
+    done_number(tell(r, player, answer))
 }

@@ -1,7 +1,6 @@
 -- The words of an addition, and what an addition's tests show. Assumes nothing.
-use Rattle.std.specs.Prelude.{ℕ, ◌+◌, ◌-◌, ◌≤◌, ◌<◌, ◌≡◌, refl, Bool, true, false, cond, ◌&&◌, List, [], ◌∷◌, ◌++◌, eqb, ltb, length}
+use Rattle.std.specs.Prelude.{ℕ, ◌+◌, ◌-◌, ◌≤◌, ◌<◌, ◌≡◌, refl, Bool, true, false, cond, ◌&&◌, List, [], ◌∷◌, ◌++◌, eqb, ltb, length, Err, Ok, None, Some}
 use Rattle.std.proofs.Common.{arith, sym, ap, ◌∙◌, inr}
-use Rattle.std.proofs.Math.Option.{none, some}
 use borrow.Author.Tests.{ltb-true, eqb-true, eqb-false, eq-eqb, ne_eqb}
 use Rattle.rows.specs.Rows.{put}
 use Rattle.rows.specs.Laws.{put_append, put_put, put_comm, put_next}
@@ -18,8 +17,6 @@ use Rattle.contact_graph.specs.IdLaws.{new_id_lem}
 use Rattle.contact_graph.specs.Promises.{Added, added}
 use Rattle.contact_range.specs.RangeLaws.{counts, first_of_lem, rest_of}
 use Rattle.contact_range.specs.Recorded.{capacity_of, given_of, listed_count, free_count, contact_at}
-use Rattle.contact_graph.specs.declared.add.AddAnswer.TheVariants.{Refused}
-use Rattle.contact_graph.specs.declared.add.AddAnswer.TheVariants as answers
 use Rattle.contact_range.specs.Range.{is_mark, right_length, in_range}
 use Rattle.manifold_records.specs.ListLaws.{length_zeros}
 use Rattle.contact_graph.specs.declared.call.Request.{Request}
@@ -36,7 +33,7 @@ optional_words_lem : (m n : ℕ) → m < 2 → optional_words (optional m n) ≡
 unfolding optional_words
 optional_words_lem m n h = go (eqb m 1) refl
   where
-    go : (b : Bool) → eqb m 1 ≡ b → optional_words (cond b (some n) none) ≡ m ∷ cond b n 0 ∷ []
+    go : (b : Bool) → eqb m 1 ≡ b → optional_words (cond b (Some n) None) ≡ m ∷ cond b n 0 ∷ []
     go true e = ap (λ (k : ℕ). k ∷ n ∷ []) (sym (eqb-true m 1 e))
     go false e = ap (λ (k : ℕ). k ∷ 0 ∷ []) (let d = eqb-false m 1 e in let z : 0 ≡ m = omega (arith, d) in z)
 
@@ -149,24 +146,24 @@ module _ (g : List ℕ) (a : Request) where
   add_accepted p q s t u v = rw (p, q, s, ne_eqb a.collider1 a.collider2 t, u, ne_eqb (listed_count g) (capacity_of g) v)
 
   -- so the promise is kept
-  pub refused_length : right_length g ≡ false → Added g a g (Refused WrongLength)
+  pub refused_length : right_length g ≡ false → Added g a g (Err WrongLength)
   refused_length p = let e = add_length p in record { answer = rw e; graph = rw e }
 
-  pub refused_range : right_length g ≡ true → in_range g ≡ false → Added g a g (Refused OutOfRange)
+  pub refused_range : right_length g ≡ true → in_range g ≡ false → Added g a g (Err OutOfRange)
   refused_range p q = let e = add_range p q in record { answer = rw e; graph = rw e }
 
-  pub refused_request : right_length g ≡ true → in_range g ≡ true → request_fits a ≡ false → Added g a g (Refused OutOfRange)
+  pub refused_request : right_length g ≡ true → in_range g ≡ true → request_fits a ≡ false → Added g a g (Err OutOfRange)
   refused_request p q s = let e = add_request p q s in record { answer = rw e; graph = rw e }
 
-  pub refused_same : right_length g ≡ true → in_range g ≡ true → request_fits a ≡ true → a.collider1 ≡ a.collider2 → Added g a g (Refused SameCollider)
+  pub refused_same : right_length g ≡ true → in_range g ≡ true → request_fits a ≡ true → a.collider1 ≡ a.collider2 → Added g a g (Err SameCollider)
   refused_same p q s t = let e = add_same p q s t in record { answer = rw e; graph = rw e }
 
-  pub refused_stands : right_length g ≡ true → in_range g ≡ true → request_fits a ≡ true → (a.collider1 ≡ a.collider2 → ⊥) → pair_stands g a.collider1 a.collider2 ≡ true → Added g a g (Refused PairExists)
+  pub refused_stands : right_length g ≡ true → in_range g ≡ true → request_fits a ≡ true → (a.collider1 ≡ a.collider2 → ⊥) → pair_stands g a.collider1 a.collider2 ≡ true → Added g a g (Err PairExists)
   refused_stands p q s t u = let e = add_stands p q s t u in record { answer = rw e; graph = rw e }
 
-  pub refused_full : right_length g ≡ true → in_range g ≡ true → request_fits a ≡ true → (a.collider1 ≡ a.collider2 → ⊥) → pair_stands g a.collider1 a.collider2 ≡ false → listed_count g ≡ capacity_of g → Added g a g (Refused GraphFull)
+  pub refused_full : right_length g ≡ true → in_range g ≡ true → request_fits a ≡ true → (a.collider1 ≡ a.collider2 → ⊥) → pair_stands g a.collider1 a.collider2 ≡ false → listed_count g ≡ capacity_of g → Added g a g (Err GraphFull)
   refused_full p q s t u v = let e = add_full p q s t u v in record { answer = rw e; graph = rw e }
 
   pub add_kept : {h : List ℕ} {r : ContactId} → right_length g ≡ true → in_range g ≡ true → request_fits a ≡ true → (a.collider1 ≡ a.collider2 → ⊥) → pair_stands g a.collider1 a.collider2 ≡ false → (listed_count g ≡ capacity_of g → ⊥)
-      → AddedNew g a h r → Added g a h (answers.Added r)
+      → AddedNew g a h r → Added g a h (Ok r)
   add_kept p q s t u v f = let e = add_accepted p q s t u v in record { answer = ap added f.id ∙ rw e; graph = f.graph ∙ rw e }

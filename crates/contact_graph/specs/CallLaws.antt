@@ -1,5 +1,5 @@
 -- From what the tests of a call show to what the call asks and promises. Assumes nothing.
-use Rattle.std.specs.Prelude.{ℕ, ◌+◌, ◌-◌, ◌*◌, ◌≤◌, ◌<◌, ◌≡◌, true, false, List, [], ◌∷◌, length}
+use Rattle.std.specs.Prelude.{ℕ, ◌+◌, ◌-◌, ◌*◌, ◌≤◌, ◌<◌, ◌≡◌, true, false, List, [], ◌∷◌, length, Err, Ok}
 use Rattle.std.proofs.Common.{arith, ◌∙◌}
 use Rattle.rows.specs.Rows.{put}
 use Rattle.contact_types.specs.declared.refusal.Refusal.TheVariants.{WrongLength, OutOfRange, NoContact}
@@ -14,7 +14,6 @@ use Rattle.contact_range.specs.Recorded.{capacity_of, listed_count, free_count, 
 use Rattle.contact_range.specs.Conditions.{RightLength, Standing}
 use Rattle.contact_graph.specs.Removing.{GapOf}
 use Rattle.contact_graph.specs.declared.remove.Gap.{Gap}
-use Rattle.contact_graph.specs.declared.remove.RemoveAnswer.TheVariants.{Done, Refused}
 
 pub checked : {g : List ℕ} → right_length g ≡ true → in_range g ≡ true → Checked g
 checked p q = record { right = right_length_lem p; range = in_range_lem (shown q) }
@@ -82,14 +81,14 @@ pub gap_closed : {g a b c : List ℕ} {id : ℕ} {gap : Gap} {n m k : ℕ} → G
 unfolding removed_words
 gap_closed {g} {id = id} f p q s t u w = w ∙ rw (t, u, s, q, p, f.list, f.last, f.index, f.place)
 
-pub remove_refused_length : (g : List ℕ) (id : ℕ) → right_length g ≡ false → Removed g id g (Refused WrongLength)
+pub remove_refused_length : (g : List ℕ) (id : ℕ) → right_length g ≡ false → Removed g id g (Err WrongLength)
 remove_refused_length g id p = let e = id_length g id p in record { answer = rw e; graph = rw e }
 
-pub remove_refused_range : (g : List ℕ) (id : ℕ) → right_length g ≡ true → in_range g ≡ false → Removed g id g (Refused OutOfRange)
+pub remove_refused_range : (g : List ℕ) (id : ℕ) → right_length g ≡ true → in_range g ≡ false → Removed g id g (Err OutOfRange)
 remove_refused_range g id p q = let e = id_range g id p q in record { answer = rw e; graph = rw e }
 
-pub remove_refused_none : (g : List ℕ) (id : ℕ) → right_length g ≡ true → in_range g ≡ true → stands g id ≡ false → Removed g id g (Refused NoContact)
+pub remove_refused_none : (g : List ℕ) (id : ℕ) → right_length g ≡ true → in_range g ≡ true → stands g id ≡ false → Removed g id g (Err NoContact)
 remove_refused_none g id p q s = let e = id_none g id p q s in record { answer = rw e; graph = rw e }
 
-pub remove_kept : (g : List ℕ) (id : ℕ) {h : List ℕ} → right_length g ≡ true → in_range g ≡ true → stands g id ≡ true → h ≡ removed_words g id → Removed g id h Done
+pub remove_kept : (g : List ℕ) (id : ℕ) {h : List ℕ} → right_length g ≡ true → in_range g ≡ true → stands g id ≡ true → h ≡ removed_words g id → Removed g id h (Ok tt)
 remove_kept g id p q s f = let e = id_found g id p q s in record { answer = rw e; graph = f ∙ rw e }

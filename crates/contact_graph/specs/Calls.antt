@@ -1,6 +1,5 @@
 -- Lay out, add, look up and remove: the answer and every word of the lent graph, in a refusal too. Definitions only.
-use Rattle.std.specs.Prelude.{ℕ, ◌+◌, ◌-◌, Bool, true, false, cond, not, ◌&&◌, List, [], ◌∷◌, eqb, ltb, leb, length}
-use Rattle.std.proofs.Math.Option.{Option, none, some}
+use Rattle.std.specs.Prelude.{ℕ, ◌+◌, ◌-◌, Bool, true, false, cond, not, ◌&&◌, List, [], ◌∷◌, eqb, ltb, leb, length, None, Option, Some}
 use Rattle.rows.specs.Rows.{put}
 use Rattle.rules.specs.Graph.{Addition, new_pair}
 use Rattle.rules.specs.Limits.{colliders, bodies, most_contacts}
@@ -15,7 +14,6 @@ use Rattle.contact_range.specs.Recorded.{capacity_of, given_of, listed_count, fr
 use Rattle.contact_range.specs.Range.{is_mark, same_colliders, right_length, in_range, stands}
 use Rattle.contact_graph.specs.declared.call.Request.{Request}
 use Rattle.contact_graph.specs.declared.call.ContactEdge.{ContactEdge}
-use Rattle.collider.specs.declared.optional.OptionalBody.TheVariants as body
 
 -- ---- lay out
 -- 1: the capacity is not 1 to 256, or the length is not the one for it
@@ -32,7 +30,7 @@ abbrev pub body_fits : ℕ → ℕ → Bool
 body_fits mark body = is_mark mark && cond (eqb mark 1) (ltb body bodies) true
 
 abbrev pub optional : ℕ → ℕ → Option ℕ
-optional mark n = cond (eqb mark 1) (some n) none
+optional mark n = cond (eqb mark 1) (Some n) None
 
 -- the word behind a mark
 abbrev pub body_word : ℕ → ℕ → ℕ
@@ -79,8 +77,8 @@ new_edge a b =
       id = record { 0 = 0xffff_ffff };
       collider1 = a;
       collider2 = b;
-      body1 = body.Unnamed;
-      body2 = body.Unnamed;
+      body1 = None;
+      body2 = None;
       pair_index = 0;
       touching = false;
       contact_events = false;

@@ -1,5 +1,5 @@
 -- Which lay outs are refused, and the words of one that is not. Assumes nothing.
-use Rattle.std.specs.Prelude.{ℕ, zero, suc, ◌-◌, ◌≤◌, ◌<◌, ◌≡◌, List, ◌∷◌, length, set}
+use Rattle.std.specs.Prelude.{ℕ, zero, suc, ◌-◌, ◌≤◌, ◌<◌, ◌≡◌, List, ◌∷◌, length, set, Err, Ok}
 use native.Mathlib.Omega.{arith}
 use Rattle.std.proofs.Common.{ap, ◌∙◌}
 use borrow.Author.Tests.{eq-eqb, ne_eqb, lt-ltb, le-leb, lt-leb}
@@ -8,7 +8,6 @@ use Rattle.layout.specs.Graph.{graph_length}
 use Rattle.contact_types.specs.declared.refusal.Refusal.TheVariants.{WrongLength}
 use Rattle.contact_graph.specs.Calls.{lay_out_refusal, laid_out}
 use Rattle.contact_graph.specs.Promises.{LaidOut}
-use Rattle.contact_graph.specs.declared.lay_out.LayOutAnswer.TheVariants.{Done, Refused}
 
 module _ (g : List ℕ) (capacity : ℕ) where
   pub lay_out_none : capacity ≡ 0 → lay_out_refusal g capacity ≡ 1
@@ -39,8 +38,8 @@ laid_out_lem g capacity e p =
     ap (λ (l : List ℕ). set l 0 capacity) (p ∙ ap zeros e) ∙ set_zeros (graph_length capacity) capacity (omega arith)
 
 -- ---- so the promise is kept
-pub lay_out_refused : (g : List ℕ) (capacity : ℕ) → lay_out_refusal g capacity ≡ 1 → LaidOut g capacity g (Refused WrongLength)
+pub lay_out_refused : (g : List ℕ) (capacity : ℕ) → lay_out_refusal g capacity ≡ 1 → LaidOut g capacity g (Err WrongLength)
 lay_out_refused g capacity e = record { answer = rw e; graph = rw e }
 
-pub lay_out_kept : (g : List ℕ) (capacity : ℕ) {h : List ℕ} → lay_out_refusal g capacity ≡ 0 → h ≡ laid_out capacity → LaidOut g capacity h Done
+pub lay_out_kept : (g : List ℕ) (capacity : ℕ) {h : List ℕ} → lay_out_refusal g capacity ≡ 0 → h ≡ laid_out capacity → LaidOut g capacity h (Ok tt)
 lay_out_kept g capacity e p = record { answer = rw e; graph = p ∙ rw e }

@@ -5,7 +5,6 @@ use Rattle.words.specs.Words.{word_at}
 use Rattle.layout.specs.Contact.{contact_edge_flags, contact_pair_index}
 use Rattle.contact_records.specs.Recorded.{names_at, edge_at}
 use Rattle.contact_range.specs.Recorded.{contact_at}
-use Rattle.collider.specs.Views.{plain_number_if}
 use Rattle.contact_graph.specs.declared.call.ContactEdge.{ContactEdge}
 
 -- ContactEdge
@@ -19,7 +18,7 @@ pub record Edge : Type 0 where
 unfoldable pub edge_value : ContactEdge → Edge
 edge_value e =
     record {
-      names = record { id = e.id.0; collider1 = e.collider1; collider2 = e.collider2; body1 = plain_number_if e.body1; body2 = plain_number_if e.body2 };
+      names = record { id = e.id.0; collider1 = e.collider1; collider2 = e.collider2; body1 = e.body1; body2 = e.body2 };
       marks = record { touching = e.touching; contact_events = e.contact_events };
       index = e.pair_index;
     }

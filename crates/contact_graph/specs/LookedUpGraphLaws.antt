@@ -1,7 +1,6 @@
 -- A look up answers the edge of the plain graph's contact of that id, and that there is none where the plain graph has none. Assumes nothing.
-use Rattle.std.specs.Prelude.{ℕ, zero, suc, ◌+◌, ◌<◌, ◌≡◌, refl, Bool, true, false, cond, List, [], ◌∷◌, map, eqb, length, get_or}
+use Rattle.std.specs.Prelude.{ℕ, zero, suc, ◌+◌, ◌<◌, ◌≡◌, refl, Bool, true, false, cond, List, [], ◌∷◌, map, eqb, length, get_or, Option, None, Some}
 use Rattle.std.proofs.Common.{suc-le-suc, zero-lt-suc, not-suc-le-zero, le_of_suc-le-suc, arith, sym, ap, ◌∙◌, true≢false, eq-eqb, ne_eqb}
-use Rattle.std.proofs.Math.Option.{Option, none, some}
 use Rattle.rows.specs.Slots.{upto}
 use Rattle.rules.specs.Graph.{Graph}
 use Rattle.rules.specs.Records.{Pair}
@@ -23,30 +22,30 @@ edge_of_pair p place = record { names = p.names; marks = p.edge; index = place }
 
 -- the first pair with that id, the list's first being at a place
 unfoldable pub edge_from : ℕ → ℕ → List Pair → Option Edge
-edge_from id place [] = none
-edge_from id place (p ∷ ps) = cond (eqb p.names.id id) (some (edge_of_pair p place)) (edge_from id (suc place) ps)
+edge_from id place [] = None
+edge_from id place (p ∷ ps) = cond (eqb p.names.id id) (Some (edge_of_pair p place)) (edge_from id (suc place) ps)
 
 abbrev pub plain_look_up : ℕ → Graph → Option Edge
 plain_look_up id g = edge_from id 0 g.pairs
 
 -- ---- laws of lists of pairs
 pub edge_at_lem : (id n : ℕ) (ps : List Pair) (k : ℕ) (d : Pair) → k < length ps → (get_or ps k d).names.id ≡ id → ((j : ℕ) → j < k → (get_or ps j d).names.id ≡ id → ⊥)
-    → edge_from id n ps ≡ some (edge_of_pair (get_or ps k d) (n + k))
+    → edge_from id n ps ≡ Some (edge_of_pair (get_or ps k d) (n + k))
 unfolding edge_from
 edge_at_lem id n [] k d h e f = absurd (not-suc-le-zero h)
 edge_at_lem id n (p ∷ ps) zero d h e f =
-    ap (λ (t : Bool). cond t (some (edge_of_pair p n)) (edge_from id (suc n) ps)) (eq-eqb p.names.id id e)
-    ∙ ap (λ (m : ℕ). some (edge_of_pair p m)) (let z : n ≡ n + 0 = omega arith in z)
+    ap (λ (t : Bool). cond t (Some (edge_of_pair p n)) (edge_from id (suc n) ps)) (eq-eqb p.names.id id e)
+    ∙ ap (λ (m : ℕ). Some (edge_of_pair p m)) (let z : n ≡ n + 0 = omega arith in z)
 edge_at_lem id n (p ∷ ps) (suc k) d h e f =
-    ap (λ (t : Bool). cond t (some (edge_of_pair p n)) (edge_from id (suc n) ps)) (ne_eqb p.names.id id (f zero (zero-lt-suc k)))
+    ap (λ (t : Bool). cond t (Some (edge_of_pair p n)) (edge_from id (suc n) ps)) (ne_eqb p.names.id id (f zero (zero-lt-suc k)))
     ∙ edge_at_lem id (suc n) ps k d (le_of_suc-le-suc h) e (λ j l. f (suc j) (suc-le-suc l))
-    ∙ ap (λ (m : ℕ). some (edge_of_pair (get_or ps k d) m)) (let z : suc n + k ≡ n + suc k = omega arith in z)
+    ∙ ap (λ (m : ℕ). Some (edge_of_pair (get_or ps k d) m)) (let z : suc n + k ≡ n + suc k = omega arith in z)
 
-pub edge_none : (id n : ℕ) (ps : List Pair) (d : Pair) → ((j : ℕ) → j < length ps → (get_or ps j d).names.id ≡ id → ⊥) → edge_from id n ps ≡ none
+pub edge_none : (id n : ℕ) (ps : List Pair) (d : Pair) → ((j : ℕ) → j < length ps → (get_or ps j d).names.id ≡ id → ⊥) → edge_from id n ps ≡ None
 unfolding edge_from
 edge_none id n [] d f = refl
 edge_none id n (p ∷ ps) d f =
-    ap (λ (t : Bool). cond t (some (edge_of_pair p n)) (edge_from id (suc n) ps)) (ne_eqb p.names.id id (f zero (zero-lt-suc (length ps))))
+    ap (λ (t : Bool). cond t (Some (edge_of_pair p n)) (edge_from id (suc n) ps)) (ne_eqb p.names.id id (f zero (zero-lt-suc (length ps))))
     ∙ edge_none id (suc n) ps d (λ j l. f (suc j) (suc-le-suc l))
 
 -- ---- the words
@@ -54,7 +53,7 @@ pub listed_edge : (g : List ℕ) (p : ℕ) → edge_of_pair (listed_pair g p) p 
 unfolding pair_at
 listed_edge g p = refl
 
-pub looked_up_graph : {g : List ℕ} (id : ℕ) → Checked g → stands g id ≡ true → plain_look_up id (graph_of g) ≡ some (edge_of g id)
+pub looked_up_graph : {g : List ℕ} (id : ℕ) → Checked g → stands g id ≡ true → plain_look_up id (graph_of g) ≡ Some (edge_of g id)
 unfolding graph_of edge_in
 looked_up_graph {g} id c s =
     let p = place_of g id in
@@ -64,12 +63,12 @@ looked_up_graph {g} id c s =
     edge_at_lem id 0 ps p d (omega (arith, len, here id c s)) (at_place id c s p (here id c s) ∙ named id c s)
     (λ j l e. let b : j < listed_count g = omega (arith, here id c s) in
     let z = listed_once c.range j p b (here id c s) (sym (at_place id c s j b) ∙ e ∙ sym (named id c s)) in omega arith)
-    ∙ ap (λ (m : ℕ). some (edge_of_pair (get_or ps p d) m)) (let z : 0 + p ≡ p = omega arith in z)
-    ∙ ap (λ (q : Pair). some (edge_of_pair q p)) (get_d_map_upto (listed_pair g) (listed_count g) p d (here id c s))
-    ∙ ap some (listed_edge g p)
-    ∙ ap (λ (m : ℕ). some (record { names = names_at g (contact_at g m) m; marks = edge_at g (contact_at g m + contact_edge_flags); index = p })) (named id c s)
+    ∙ ap (λ (m : ℕ). Some (edge_of_pair (get_or ps p d) m)) (let z : 0 + p ≡ p = omega arith in z)
+    ∙ ap (λ (q : Pair). Some (edge_of_pair q p)) (get_d_map_upto (listed_pair g) (listed_count g) p d (here id c s))
+    ∙ ap Some (listed_edge g p)
+    ∙ ap (λ (m : ℕ). Some (record { names = names_at g (contact_at g m) m; marks = edge_at g (contact_at g m + contact_edge_flags); index = p })) (named id c s)
 
-pub looked_up_none : (g : List ℕ) (id : ℕ) → stands g id ≡ false → plain_look_up id (graph_of g) ≡ none
+pub looked_up_none : (g : List ℕ) (id : ℕ) → stands g id ≡ false → plain_look_up id (graph_of g) ≡ None
 unfolding graph_of
 looked_up_none g id s =
     let ps = map (listed_pair g) (upto (listed_count g)) in

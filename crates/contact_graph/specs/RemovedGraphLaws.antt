@@ -1,9 +1,8 @@
 -- A removal leaves a graph of the right length and in range, and to the words it does what the plain removal does to the graph. Assumes nothing.
-use Rattle.std.specs.Prelude.{ℕ, zero, suc, ◌+◌, ◌-◌, ◌≤◌, ◌<◌, min, ◌≡◌, refl, ◌≢◌, Bool, true, cond, List, [], ◌∷◌, ◌++◌, map, length, get_or, take, set}
+use Rattle.std.specs.Prelude.{ℕ, zero, suc, ◌+◌, ◌-◌, ◌≤◌, ◌<◌, min, ◌≡◌, refl, ◌≢◌, Bool, true, cond, List, [], ◌∷◌, ◌++◌, map, length, get_or, take, set, Option, Some}
 use Rattle.std.proofs.Common.{suc-le-suc, add_assoc, zero-lt-suc, not-suc-le-zero, le_of_suc-le-suc, arith, sym, ◌∙◌, inl, inr, eq-eqb, ne_eqb, length-take, length-set, get_or-take, get_or-set_same, get_or-set_other, ext_get_or}
 use Rattle.std.proofs.Math.Nat.{min-eq_left}
 use Rattle.std.proofs.Math.Path.{ap}
-use Rattle.std.proofs.Math.Option.{Option, some}
 use Rattle.std.specs.Float.Ieee.{binary32, of_bits}
 use Rattle.rows.specs.Slots.{upto}
 use Rattle.rules.specs.Graph.{Graph, later, pair_index, swap_remove, removed_at, removed_found, plain_remove}
@@ -58,12 +57,12 @@ module _ (xs : List ℕ) (a : ℕ) (ys : List ℕ) (b : ℕ) (same : (o : ℕ) �
 
 -- ---- lists of pairs
 -- the first pair of that id is the one at the place
-pub pair_index_at : (id : ℕ) (ps : List Pair) (k : ℕ) (d : Pair) → k < length ps → (get_or ps k d).names.id ≡ id → ((j : ℕ) → j < k → (get_or ps j d).names.id ≡ id → ⊥) → pair_index id ps ≡ some k
+pub pair_index_at : (id : ℕ) (ps : List Pair) (k : ℕ) (d : Pair) → k < length ps → (get_or ps k d).names.id ≡ id → ((j : ℕ) → j < k → (get_or ps j d).names.id ≡ id → ⊥) → pair_index id ps ≡ Some k
 unfolding pair_index
 pair_index_at id [] k d h e n = absurd (not-suc-le-zero h)
-pair_index_at id (p ∷ ps) zero d h e n = ap (λ (t : Bool). cond t (some 0) (later (pair_index id ps))) (eq-eqb p.names.id id e)
+pair_index_at id (p ∷ ps) zero d h e n = ap (λ (t : Bool). cond t (Some 0) (later (pair_index id ps))) (eq-eqb p.names.id id e)
 pair_index_at id (p ∷ ps) (suc k) d h e n =
-    ap (λ (t : Bool). cond t (some 0) (later (pair_index id ps))) (ne_eqb p.names.id id (n zero (zero-lt-suc k)))
+    ap (λ (t : Bool). cond t (Some 0) (later (pair_index id ps))) (ne_eqb p.names.id id (n zero (zero-lt-suc k)))
     ∙ ap later (pair_index_at id ps k d (le_of_suc-le-suc h) e (λ j l. n (suc j) (suc-le-suc l)))
 
 pub get_d_any {ℓ} : {A : Type ℓ} (l : List A) (i : ℕ) (d e : A) → i < length l → get_or l i d ≡ get_or l i e
@@ -71,7 +70,7 @@ get_d_any [] i d e h = absurd (not-suc-le-zero h)
 get_d_any (x ∷ l) zero d e h = refl
 get_d_any (x ∷ l) (suc i) d e h = get_d_any l i d e (le_of_suc-le-suc h)
 
-pub found_at : (g : Graph) (i : ℕ) (ps : List Pair) (d : Pair) → i < length ps → removed_found g (some i) ps ≡ removed_at g i (get_or ps i d)
+pub found_at : (g : Graph) (i : ℕ) (ps : List Pair) (d : Pair) → i < length ps → removed_found g (Some i) ps ≡ removed_at g i (get_or ps i d)
 unfolding removed_found
 found_at g i [] d h = absurd (not-suc-le-zero h)
 found_at g i (p ∷ ps) d h = ap (removed_at g i) (get_d_any (p ∷ ps) i p d h)
@@ -123,7 +122,7 @@ module _ {g : List ℕ} (id : ℕ) (c : Checked g) (s : stands g id ≡ true) wh
   pub at_place : (k : ℕ) → k < listed_count g → (get_or pairs k gone).names.id ≡ listed_at g k
   at_place k l = ap (λ (p : Pair). p.names.id) (get_d_map_upto (listed_pair g) (listed_count g) k gone l) ∙ pair_id g k
 
-  pub removed_pair_index : pair_index id pairs ≡ some (place_of g id)
+  pub removed_pair_index : pair_index id pairs ≡ Some (place_of g id)
   removed_pair_index =
       pair_index_at id pairs (place_of g id) gone (omega (arith, here, length_map_upto (listed_pair g) (listed_count g))) (at_place (place_of g id) here ∙ named)
       (λ j l e. let b : j < listed_count g = omega (arith, here) in

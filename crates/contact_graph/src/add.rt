@@ -13,9 +13,8 @@ ghost use Rattle.contact_range.specs.Range.{same_colliders};
 ghost use Rattle.contact_range.specs.Recorded.{capacity_of, listed_count};
 ghost use Rattle.contact_records.specs.Written.{new_contact_words};
 
-use crate::call::{ContactEdge, Request};
-use contact_range::places::{contact_at, free_at, id_at, number_at};
-use contact_range::range::{in_range, right_length};
+use crate::call::{ContactEdge, Request, check_graph};
+use contact_range::places::{contact_at, free_at, id_at};
 use contact_types::contact_id::ContactId;
 use contact_types::refusal::Refusal;
 use data_structures::pair_key::PairKey;
@@ -23,13 +22,9 @@ use layout::contact::{CONTACT_CACHE, CONTACT_COLLIDER2, CONTACT_SIZE};
 use layout::graph::{GRAPH_CAPACITY, GRAPH_FREED, GRAPH_GIVEN, GRAPH_LIST, GRAPH_LISTED};
 use layout::limits::{BODIES, COLLIDERS};
 use math::bits::bits_of;
-use words::row::{load_word, store_word, store_words};
-
-#[derive(Clone, Copy)]
-pub enum AddAnswer {
-    Added(ContactId),
-    Refused(Refusal),
-}
+use words::load::load;
+use words::row::store_words;
+use words::store::store;
 
 // A mark, and behind a mark of 1 a body's number.
 fn body_fits(mark: u32, body: u32) -> bool
@@ -70,7 +65,7 @@ fn request_fits(a: Request) -> bool
 pub fn same_colliders(a: u32, b: u32, c: u32, d: u32) -> bool
     ensures { result ≡ same_colliders a b c d }
 {
-    PairKey::new(a, b).0 == PairKey::new(c, d).0
+    PairKey::new(a, b) == PairKey::new(c, d)
 }
 
 // The pair stands already.
@@ -78,20 +73,18 @@ fn pair_stands(graph: &[u32], a: u32, b: u32) -> bool
     requires { Checked graph.now }
     ensures { result ≡ pair_stands graph.now a b }
 {
-    let listed = number_at(graph, GRAPH_LISTED);
-    let mut p = 0;
-    while p < listed {
+    let listed = load::<usize>(graph, GRAPH_LISTED);
+    for p in 0..listed {
         let id = id_at(graph, GRAPH_LIST + p);
         let at = contact_at(graph, id);
         if same_colliders(
             a,
             b,
-            load_word(graph, at),
-            load_word(graph, at + CONTACT_COLLIDER2),
+            load::<u32>(graph, at),
+            load::<u32>(graph, at + CONTACT_COLLIDER2),
         ) {
             return true;
         }
-        p += 1;
     }
     false
 }
@@ -101,7 +94,7 @@ fn new_id(graph: &[u32]) -> ContactId
     requires { Checked graph.now }
     ensures { result.0 ≡ new_id_of graph.now }
 {
-    let freed = number_at(graph, GRAPH_FREED);
+    let freed = load::<usize>(graph, GRAPH_FREED);
     if freed == 0 {
         return id_at(graph, GRAPH_GIVEN);
     }
@@ -179,7 +172,7 @@ fn next_given(given: u32, freed: u32) -> u32
 fn next_freed(freed: u32) -> u32
     ensures { result ≡ freed - 1 }
 {
-    if freed == 0 { 0 } else { freed - 1 }
+    freed.saturating_sub(1)
 }
 
 // The contact is recorded under its new id and listed last.
@@ -189,41 +182,36 @@ fn add_new(graph: &mut [u32], a: Request) -> ContactId
 {
     let mut edge = ContactEdge::new(a.collider1, a.collider2);
     let new = new_id(graph);
-    let given = load_word(graph, GRAPH_GIVEN);
-    let listed = load_word(graph, GRAPH_LISTED);
-    let freed = load_word(graph, GRAPH_FREED);
+    let given = load::<u32>(graph, GRAPH_GIVEN);
+    let listed = load::<u32>(graph, GRAPH_LISTED);
+    let freed = load::<u32>(graph, GRAPH_FREED);
     let at = contact_at(graph, new);
     edge.id = new;
     edge.pair_index = listed;
     store_new(graph, at, a, edge.pair_index);
-    store_word(graph, GRAPH_LIST + listed as usize, new.0);
+    store(graph, GRAPH_LIST + listed as usize, new.0);
     let now_given = next_given(given, freed);
     let now_freed = next_freed(freed);
     store_three(graph, now_given, listed + 1, now_freed);
     edge.id
 }
 
-pub fn add(graph: &mut [u32], a: Request) -> AddAnswer
+pub fn add(graph: &mut [u32], a: Request) -> Result<ContactId, Refusal>
     ensures { Added graph.old a graph.new result }
 {
-    if !right_length(graph) {
-        return AddAnswer::Refused(Refusal::WrongLength);
-    }
-    if !in_range(graph) {
-        return AddAnswer::Refused(Refusal::OutOfRange);
-    }
+    check_graph(graph)?;
     if !request_fits(a) {
-        return AddAnswer::Refused(Refusal::OutOfRange);
+        return Err(Refusal::OutOfRange);
     }
     if a.collider1 == a.collider2 {
-        return AddAnswer::Refused(Refusal::SameCollider);
+        return Err(Refusal::SameCollider);
     }
-    let full = number_at(graph, GRAPH_LISTED) == number_at(graph, GRAPH_CAPACITY);
+    let full = load::<usize>(graph, GRAPH_LISTED) == load::<usize>(graph, GRAPH_CAPACITY);
     if pair_stands(graph, a.collider1, a.collider2) {
-        return AddAnswer::Refused(Refusal::PairExists);
+        return Err(Refusal::PairExists);
     }
     if full {
-        return AddAnswer::Refused(Refusal::GraphFull);
+        return Err(Refusal::GraphFull);
     }
-    AddAnswer::Added(add_new(graph, a))
+    Ok(add_new(graph, a))
 }

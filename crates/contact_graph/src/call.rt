@@ -4,21 +4,21 @@ ghost use Rattle.layout.specs.Request.{request_length};
 ghost use Rattle.contact_graph.specs.Calls.{new_edge, request_of};
 ghost use Rattle.contact_range.specs.Range.{stands};
 ghost use Rattle.contact_range.specs.Checked.{Checked};
+ghost use Rattle.contact_graph.specs.Promises.{GraphTested};
 
-use collider::optional::OptionalBody;
-use contact_range::places::number_at;
-use contact_range::range::is_standing;
+use contact_range::range::{in_range, is_standing, right_length};
 use contact_types::contact_id::ContactId;
+use contact_types::refusal::Refusal;
 use layout::graph::GRAPH_GIVEN;
 use layout::request::{
     REQUEST_BODY1, REQUEST_BODY1_NUMBER, REQUEST_BODY2, REQUEST_BODY2_NUMBER, REQUEST_COLLIDER1,
     REQUEST_COLLIDER2, REQUEST_CONTACT_EVENTS, REQUEST_MODIFY_CONTACTS,
     REQUEST_SPECULATIVE_DISTANCE,
 };
-use words::row::{load_float, load_word};
+use words::load::load;
 
 // What an addition carries. Marks are numbers, so that one that is neither 0 nor 1 can be refused.
-#[derive(Clone, Copy)]
+#[derive(Clone, Copy, PartialEq, Debug)]
 pub struct Request {
     pub collider1: u32,
     pub collider2: u32,
@@ -37,26 +37,26 @@ pub fn load_request(words: &[u32]) -> Request
     ensures { result ≡ request_of words.now }
 {
     Request {
-        collider1: load_word(words, REQUEST_COLLIDER1),
-        collider2: load_word(words, REQUEST_COLLIDER2),
-        has_body1: load_word(words, REQUEST_BODY1),
-        body1: load_word(words, REQUEST_BODY1_NUMBER),
-        has_body2: load_word(words, REQUEST_BODY2),
-        body2: load_word(words, REQUEST_BODY2_NUMBER),
-        contact_events: load_word(words, REQUEST_CONTACT_EVENTS),
-        modify_contacts: load_word(words, REQUEST_MODIFY_CONTACTS),
-        speculative_distance: load_float(words, REQUEST_SPECULATIVE_DISTANCE),
+        collider1: load(words, REQUEST_COLLIDER1),
+        collider2: load(words, REQUEST_COLLIDER2),
+        has_body1: load(words, REQUEST_BODY1),
+        body1: load(words, REQUEST_BODY1_NUMBER),
+        has_body2: load(words, REQUEST_BODY2),
+        body2: load(words, REQUEST_BODY2_NUMBER),
+        contact_events: load(words, REQUEST_CONTACT_EVENTS),
+        modify_contacts: load(words, REQUEST_MODIFY_CONTACTS),
+        speculative_distance: load(words, REQUEST_SPECULATIVE_DISTANCE),
     }
 }
 
 // The edge of a contact, by value.
-#[derive(Clone, Copy)]
+#[derive(Clone, Copy, PartialEq, Eq, Debug)]
 pub struct ContactEdge {
     pub id: ContactId,
     pub collider1: u32,
     pub collider2: u32,
-    pub body1: OptionalBody,
-    pub body2: OptionalBody,
+    pub body1: Option<u32>,
+    pub body2: Option<u32>,
     pub pair_index: u32,
     pub touching: bool,
     pub contact_events: bool,
@@ -71,8 +71,8 @@ impl ContactEdge {
             id: ContactId::PLACEHOLDER,
             collider1,
             collider2,
-            body1: OptionalBody::Unnamed,
-            body2: OptionalBody::Unnamed,
+            body1: None,
+            body2: None,
             pair_index: 0,
             touching: false,
             contact_events: false,
@@ -80,12 +80,25 @@ impl ContactEdge {
     }
 }
 
+// Refusals 1 and 2 of a lent graph.
+pub fn check_graph(graph: &[u32]) -> Result<(), Refusal>
+    ensures { GraphTested graph.now result }
+{
+    if !right_length(graph) {
+        return Err(Refusal::WrongLength);
+    }
+    if !in_range(graph) {
+        return Err(Refusal::OutOfRange);
+    }
+    Ok(())
+}
+
 // Whether an id is a standing contact's.
 pub fn has_contact(graph: &[u32], id: ContactId) -> bool
     requires { Checked graph.now }
     ensures { result ≡ stands graph.now id.0 }
 {
-    let given = number_at(graph, GRAPH_GIVEN);
+    let given = load::<usize>(graph, GRAPH_GIVEN);
     if given <= id.0 as usize {
         return false;
     }

@@ -10,12 +10,6 @@ use layout::contact::CONTACT_SIZE;
 use layout::graph::{GRAPH_CAPACITY, GRAPH_LIST};
 use layout::limits::MOST_CONTACTS;
 
-#[derive(Clone, Copy)]
-pub enum LayOutAnswer {
-    Done,
-    Refused(Refusal),
-}
-
 // How many words a graph of that capacity has.
 pub fn graph_length(capacity: usize) -> usize
     requires { capacity ≤ most_contacts }
@@ -28,26 +22,22 @@ pub fn graph_length(capacity: usize) -> usize
 pub fn clear(words: &mut [u32])
     ensures { words.new ≡ zeros (length words.old) }
 {
-    let mut k = 0;
-    while k < words.len() {
-        words[k] = 0;
-        k += 1;
-    }
+    words.fill(0);
 }
 
-pub fn lay_out(graph: &mut [u32], capacity: u32) -> LayOutAnswer
+pub fn lay_out(graph: &mut [u32], capacity: u32) -> Result<(), Refusal>
     ensures { LaidOut graph.old capacity graph.new result }
 {
     if capacity == 0 {
-        return LayOutAnswer::Refused(Refusal::WrongLength);
+        return Err(Refusal::WrongLength);
     }
     if MOST_CONTACTS < capacity as usize {
-        return LayOutAnswer::Refused(Refusal::WrongLength);
+        return Err(Refusal::WrongLength);
     }
     if graph.len() != graph_length(capacity as usize) {
-        return LayOutAnswer::Refused(Refusal::WrongLength);
+        return Err(Refusal::WrongLength);
     }
     clear(graph);
     graph[GRAPH_CAPACITY] = capacity;
-    LayOutAnswer::Done
+    Ok(())
 }

@@ -8,20 +8,14 @@ ghost use Rattle.contact_range.specs.Checked.{Checked};
 ghost use Rattle.contact_graph.specs.Promises.{Removed};
 ghost use Rattle.contact_range.specs.Range.{stands};
 
-use crate::call::has_contact;
-use contact_range::places::{contact_at, id_at, number_at};
-use contact_range::range::{in_range, right_length};
+use crate::call::{check_graph, has_contact};
+use contact_range::places::{contact_at, id_at};
 use contact_types::contact_id::ContactId;
 use contact_types::refusal::Refusal;
 use layout::contact::CONTACT_PAIR_INDEX;
 use layout::graph::{GRAPH_CAPACITY, GRAPH_FREED, GRAPH_LIST, GRAPH_LISTED};
-use words::row::{load_word, store_word};
-
-#[derive(Clone, Copy)]
-pub enum RemoveAnswer {
-    Done,
-    Refused(Refusal),
-}
+use words::load::load;
+use words::store::store;
 
 // Where a removal stores, and what: the last listed contact's id at the gap, the gap's place in that contact's record.
 #[derive(Clone, Copy)]
@@ -36,9 +30,9 @@ fn gap_of(graph: &[u32], id: ContactId) -> Gap
     requires { Checked graph.now × (stands graph.now id.0 ≡ true) }
     ensures { GapOf graph.now id.0 result }
 {
-    let listed = number_at(graph, GRAPH_LISTED);
+    let listed = load::<usize>(graph, GRAPH_LISTED);
     let at = contact_at(graph, id);
-    let place = load_word(graph, at + CONTACT_PAIR_INDEX);
+    let place = load::<u32>(graph, at + CONTACT_PAIR_INDEX);
     let last = id_at(graph, GRAPH_LIST + (listed - 1));
     let moved = contact_at(graph, last);
     Gap {
@@ -54,8 +48,8 @@ fn store_counts(graph: &mut [u32], listed: u32, freed: u32)
     requires { graph_list ≤ length graph.old }
     ensures { graph.new ≡ put graph.old graph_listed (listed ∷ freed ∷ []) }
 {
-    store_word(graph, GRAPH_LISTED, listed);
-    store_word(graph, GRAPH_FREED, freed);
+    store(graph, GRAPH_LISTED, listed);
+    store(graph, GRAPH_FREED, freed);
 }
 
 fn close_gap(graph: &mut [u32], gap: Gap)
@@ -65,8 +59,8 @@ fn close_gap(graph: &mut [u32], gap: Gap)
     let list_at = gap.list_at;
     let index_at = gap.index_at;
     let last = gap.last;
-    store_word(graph, list_at, last.0);
-    store_word(graph, index_at, gap.place);
+    store(graph, list_at, last.0);
+    store(graph, index_at, gap.place);
 }
 
 // The last listed contact takes the gap and is told its new place; the id is freed last.
@@ -75,26 +69,21 @@ pub fn remove_standing(graph: &mut [u32], id: ContactId)
     ensures { graph.new ≡ removed_words graph.old id.0 }
 {
     let gap = gap_of(graph, id);
-    let capacity = number_at(graph, GRAPH_CAPACITY);
-    let listed = load_word(graph, GRAPH_LISTED);
-    let freed = load_word(graph, GRAPH_FREED);
+    let capacity = load::<usize>(graph, GRAPH_CAPACITY);
+    let listed = load::<u32>(graph, GRAPH_LISTED);
+    let freed = load::<u32>(graph, GRAPH_FREED);
     close_gap(graph, gap);
-    store_word(graph, GRAPH_LIST + capacity + freed as usize, id.0);
+    store(graph, GRAPH_LIST + capacity + freed as usize, id.0);
     store_counts(graph, listed - 1, freed + 1);
 }
 
-pub fn remove(graph: &mut [u32], id: ContactId) -> RemoveAnswer
+pub fn remove(graph: &mut [u32], id: ContactId) -> Result<(), Refusal>
     ensures { Removed graph.old id.0 graph.new result }
 {
-    if !right_length(graph) {
-        return RemoveAnswer::Refused(Refusal::WrongLength);
-    }
-    if !in_range(graph) {
-        return RemoveAnswer::Refused(Refusal::OutOfRange);
-    }
+    check_graph(graph)?;
     if !has_contact(graph, id) {
-        return RemoveAnswer::Refused(Refusal::NoContact);
+        return Err(Refusal::NoContact);
     }
     remove_standing(graph, id);
-    RemoveAnswer::Done
+    Ok(())
 }

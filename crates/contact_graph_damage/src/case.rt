@@ -1,80 +1,66 @@
 // One damage: the answers of `look_up`, `add` and `remove`, and whether every word is as it was before them.
-use crate::graph::{build, change, fill, request, same};
-use crate::places::GRAPH_LENGTH;
-use case_draws::line::{print_count, print_end, print_name, print_refused};
-use contact_graph::add::{AddAnswer, add};
-use contact_graph::look_up::{LookUpAnswer, look_up};
-use contact_graph::remove::{RemoveAnswer, remove};
+use crate::graph::{build, request};
+use crate::places::{GRAPH_LENGTH, LARGEST};
+use case_draws::line::{Id, print_answer};
+use case_draws::places::put;
+use contact_graph::add::add;
+use contact_graph::call::ContactEdge;
+use contact_graph::look_up::look_up;
+use contact_graph::remove::remove;
 use contact_types::contact_id::ContactId;
-use std::io;
 use std::io::Write;
+use std::ops::Range;
+use std::{fmt, io};
 
-fn print_found<W: Write>(out: &mut W, answer: LookUpAnswer) -> io::Result<()> {
-    match answer {
-        LookUpAnswer::Found(e) => {
-            print_name(out, b"\tedge")?;
-            print_count(out, e.collider1)?;
-            print_count(out, e.collider2)
-        }
-        LookUpAnswer::Refused(r) => print_refused(out, r.number()),
-    }
-}
+// A name, and places and what they become.
+pub type Damage = (&'static str, &'static [(u32, u32)]);
 
-fn print_added<W: Write>(out: &mut W, answer: AddAnswer) -> io::Result<()> {
-    match answer {
-        AddAnswer::Added(id) => {
-            print_name(out, b"\tid")?;
-            print_count(out, id.0)
-        }
-        AddAnswer::Refused(r) => print_refused(out, r.number()),
-    }
-}
+// And the places that become the largest word.
+pub type Filled = (&'static str, &'static [(u32, u32)], Range<u32>);
 
-fn print_removed<W: Write>(out: &mut W, answer: RemoveAnswer) -> io::Result<()> {
-    match answer {
-        RemoveAnswer::Done => print_name(out, b"\tdone"),
-        RemoveAnswer::Refused(r) => print_refused(out, r.number()),
+#[derive(Clone, Copy)]
+struct Edge(ContactEdge);
+
+impl fmt::Display for Edge {
+    fn fmt<W: fmt::Write>(&self, f: &mut fmt::Formatter<W>) -> fmt::Result {
+        write!(f, "edge\t{}\t{}", self.0.collider1, self.0.collider2)
     }
 }
 
 fn print_answers<W: Write>(out: &mut W, graph: &mut [u32]) -> io::Result<()> {
-    print_found(out, look_up(graph, ContactId(0)))?;
-    print_added(out, add(graph, request(70, 80, 1)))?;
-    print_removed(out, remove(graph, ContactId(0)))
+    let found = look_up(graph, ContactId(0));
+    print_answer(out, found.map(|e| Edge(e)).map_err(|r| r.number()))?;
+    let added = add(graph, request(70, 80, 1));
+    print_answer(out, added.map(|id| Id(id.0)).map_err(|r| r.number()))?;
+    let removed = remove(graph, ContactId(0));
+    print_answer(out, removed.map(|()| "done").map_err(|r| r.number()))
 }
 
-fn print_same<W: Write>(out: &mut W, same: bool) -> io::Result<()> {
-    if same {
-        print_name(out, b"\tsame")
-    } else {
-        print_name(out, b"\tchanged")
+fn damage(graph: &mut [u32], changes: &[(u32, u32)], filled: Range<u32>) {
+    for &(at, word) in changes {
+        put(graph, at, word);
+    }
+    for at in filled {
+        put(graph, at, LARGEST);
     }
 }
 
-fn damage(graph: &mut [u32], words: &[u32], from: u32, end: u32) {
-    build(graph);
-    change(graph, words);
-    fill(graph, from, end);
-}
-
-// Changed by `words`, and filled from a place on as far as another.
 pub fn print_filled<W: Write>(
     out: &mut W,
-    name: &[u8],
-    words: &[u32],
-    from: u32,
-    end: u32,
+    name: &str,
+    changes: &[(u32, u32)],
+    filled: Range<u32>,
 ) -> io::Result<()> {
     let mut graph = [0u32; GRAPH_LENGTH];
-    let mut before = [0u32; GRAPH_LENGTH];
-    damage(&mut graph, words, from, end);
-    damage(&mut before, words, from, end);
-    print_name(out, name)?;
+    build(&mut graph);
+    damage(&mut graph, changes, filled);
+    let before = graph;
+    write!(out, "{name}")?;
     print_answers(out, &mut graph)?;
-    print_same(out, same(&graph, &before))?;
-    print_end(out)
+    let same = if graph == before { "same" } else { "changed" };
+    writeln!(out, "\t{same}")
 }
 
-pub fn print_case<W: Write>(out: &mut W, name: &[u8], words: &[u32]) -> io::Result<()> {
-    print_filled(out, name, words, 0, 0)
+pub fn print_damage<W: Write>(out: &mut W, name: &str, changes: &[(u32, u32)]) -> io::Result<()> {
+    print_filled(out, name, changes, 0..0)
 }

@@ -8,19 +8,27 @@ mod places;
 mod recorded;
 mod unrecorded;
 
+use case::{Damage, print_damage, print_filled};
 use std::io;
 use std::io::{BufWriter, Write};
 
+fn print_damages<W: Write>(out: &mut W, damages: &[Damage]) -> io::Result<()> {
+    for &(name, changes) in damages {
+        print_damage(out, name, changes)?;
+    }
+    Ok(())
+}
+
 fn main(rt: HostRuntime) -> io::Result<()> {
     let mut out = BufWriter::new(rt.alloc(), rt.stdout())?;
-    recorded::print_capacities(&mut out)?;
-    recorded::print_numbers(&mut out)?;
+    print_damages(&mut out, &recorded::CAPACITIES)?;
+    print_damages(&mut out, &recorded::NUMBERS)?;
     recorded::print_marks(&mut out)?;
-    recorded::print_counts(&mut out)?;
-    recorded::print_ids(&mut out)?;
-    recorded::print_pairs(&mut out)?;
-    unrecorded::print_limits(&mut out)?;
-    unrecorded::print_lists(&mut out)?;
-    unrecorded::print_records(&mut out)?;
+    print_damages(&mut out, &recorded::COUNTS)?;
+    print_damages(&mut out, &recorded::IDS)?;
+    print_damages(&mut out, &recorded::PAIRS)?;
+    for (name, changes, filled) in unrecorded::UNRECORDED {
+        print_filled(&mut out, name, changes, filled)?;
+    }
     out.flush()
 }

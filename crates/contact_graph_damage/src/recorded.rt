@@ -1,5 +1,5 @@
 // Damages of what is recorded, each condition of refusal 2 by itself where it can be.
-use crate::case::print_case;
+use crate::case::{Damage, print_damage};
 use crate::places::{
     BODY1_NUMBER_0, BODY1_NUMBER_2, BODY2_0, BODY2_NUMBER_0, BODY2_NUMBER_2, COLLIDER1_0,
     COLLIDER1_2, COLLIDER1_3, COLLIDER2_0, COLLIDER2_2, COLLIDER2_3, FREE_1, FREE_2, LARGEST,
@@ -7,7 +7,6 @@ use crate::places::{
     PAIR_INDEX_2, PAIR_INDEX_3, POINTS_0, POINTS_5, RECORD_0, RECORD_2, TOO_MANY_CONTACTS,
     TOO_MANY_MANIFOLDS, TOO_MANY_POINTS,
 };
-use case_draws::line::{print_count, print_name};
 use case_draws::numbers::{
     CONTACT_BODY1, CONTACT_BODY2, CONTACT_CACHE, EDGE_CONTACT_EVENTS, EDGE_TOUCHING,
     GRAPH_CAPACITY, GRAPH_FREED, GRAPH_GIVEN, GRAPH_LIST, GRAPH_LISTED, MANIFOLDS,
@@ -41,156 +40,118 @@ const MARKS: [u32; MARKS_COUNT] = [
 ];
 
 // Refusal 1, which comes before 2.
-pub fn print_capacities<W: Write>(out: &mut W) -> io::Result<()> {
-    print_case(out, b"capacity 0", &[GRAPH_CAPACITY, 0])?;
-    print_case(out, b"capacity 3", &[GRAPH_CAPACITY, 3])?;
-    print_case(out, b"capacity 5", &[GRAPH_CAPACITY, 5])?;
-    print_case(out, b"capacity 257", &[GRAPH_CAPACITY, TOO_MANY_CONTACTS])?;
-    print_case(
-        out,
-        b"largest capacity, a collider too",
-        &[GRAPH_CAPACITY, LARGEST, COLLIDER1_0, COLLIDERS],
-    )
-}
+pub const CAPACITIES: [Damage; 5] = [
+    ("capacity 0", &[(GRAPH_CAPACITY, 0)]),
+    ("capacity 3", &[(GRAPH_CAPACITY, 3)]),
+    ("capacity 5", &[(GRAPH_CAPACITY, 5)]),
+    ("capacity 257", &[(GRAPH_CAPACITY, TOO_MANY_CONTACTS)]),
+    (
+        "largest capacity, a collider too",
+        &[(GRAPH_CAPACITY, LARGEST), (COLLIDER1_0, COLLIDERS)],
+    ),
+];
 
-pub fn print_numbers<W: Write>(out: &mut W) -> io::Result<()> {
-    print_case(out, b"collider 1", &[COLLIDER1_0, COLLIDERS])?;
-    print_case(out, b"collider 2", &[COLLIDER2_0, COLLIDERS])?;
-    print_case(out, b"collider 1 of the last", &[COLLIDER1_2, COLLIDERS])?;
-    print_case(
-        out,
-        b"largest collider 2 of the last",
-        &[COLLIDER2_2, LARGEST],
-    )?;
-    print_case(out, b"body 1", &[BODY1_NUMBER_0, BODIES])?;
-    print_case(out, b"body 1 of the last", &[BODY1_NUMBER_2, BODIES])?;
-    print_case(out, b"body 2 of the last", &[BODY2_NUMBER_2, BODIES])?;
-    print_case(
-        out,
-        b"body 2 by a mark",
-        &[BODY2_0, 1, BODY2_NUMBER_0, BODIES],
-    )
-}
+pub const NUMBERS: [Damage; 8] = [
+    ("collider 1", &[(COLLIDER1_0, COLLIDERS)]),
+    ("collider 2", &[(COLLIDER2_0, COLLIDERS)]),
+    ("collider 1 of the last", &[(COLLIDER1_2, COLLIDERS)]),
+    ("largest collider 2 of the last", &[(COLLIDER2_2, LARGEST)]),
+    ("body 1", &[(BODY1_NUMBER_0, BODIES)]),
+    ("body 1 of the last", &[(BODY1_NUMBER_2, BODIES)]),
+    ("body 2 of the last", &[(BODY2_NUMBER_2, BODIES)]),
+    (
+        "body 2 by a mark",
+        &[(BODY2_0, 1), (BODY2_NUMBER_0, BODIES)],
+    ),
+];
 
-fn print_mark<W: Write>(out: &mut W, name: &[u8], at: u32, k: u32) -> io::Result<()> {
-    print_name(out, name)?;
-    print_count(out, k)?;
-    print_case(out, b"", &[at.wrapping_add(k), 2])
-}
+pub const COUNTS: [Damage; 10] = [
+    ("7 manifolds", &[(MANIFOLDS_0, TOO_MANY_MANIFOLDS)]),
+    (
+        "7 manifolds of the last",
+        &[(MANIFOLDS_2, TOO_MANY_MANIFOLDS)],
+    ),
+    ("5 points", &[(MANIFOLDS_0, 1), (POINTS_0, TOO_MANY_POINTS)]),
+    (
+        "5 points in manifold 6",
+        &[(MANIFOLDS_0, MANIFOLDS), (POINTS_5, TOO_MANY_POINTS)],
+    ),
+    (
+        "5 given, all known",
+        &[
+            (GRAPH_GIVEN, OVER_CAPACITY),
+            (GRAPH_FREED, 3),
+            (FREE_1, 3),
+            (FREE_2, 4),
+        ],
+    ),
+    ("5 listed", &[(GRAPH_LISTED, OVER_CAPACITY)]),
+    ("5 free", &[(GRAPH_FREED, OVER_CAPACITY)]),
+    ("largest given", &[(GRAPH_GIVEN, LARGEST)]),
+    ("largest listed", &[(GRAPH_LISTED, LARGEST)]),
+    ("largest free", &[(GRAPH_FREED, LARGEST)]),
+];
 
-// Each mark of the record that begins at a place.
-fn print_record_marks<W: Write>(out: &mut W, name: &[u8], at: u32) -> io::Result<()> {
-    let mut k = 0;
-    while k < MARKS_COUNT {
-        print_mark(out, name, at, MARKS[k])?;
-        k += 1;
+pub const IDS: [Damage; 10] = [
+    ("free twice", &[(GRAPH_FREED, 2), (FREE_1, 1)]),
+    ("free and standing", &[(GRAPH_FREED, 2), (FREE_1, 0)]),
+    (
+        "free and listed",
+        &[(GRAPH_LISTED, 3), (LIST_2, 1), (PAIR_INDEX_1, 2)],
+    ),
+    (
+        "free and listed, another's place",
+        &[(GRAPH_LISTED, 3), (LIST_2, 1), (PAIR_INDEX_1, 0)],
+    ),
+    ("neither, none free", &[(GRAPH_FREED, 0)]),
+    ("neither, one more given", &[(GRAPH_GIVEN, 4)]),
+    (
+        "listed, never given",
+        &[
+            (GRAPH_LISTED, 3),
+            (LIST_2, 3),
+            (COLLIDER1_3, 1),
+            (COLLIDER2_3, 2),
+            (PAIR_INDEX_3, 2),
+        ],
+    ),
+    ("largest listed id", &[(LIST_1, LARGEST)]),
+    ("free, never given", &[(GRAPH_FREED, 2), (FREE_1, 3)]),
+    ("largest free id", &[(GRAPH_FREED, 2), (FREE_1, LARGEST)]),
+];
+
+pub const PAIRS: [Damage; 8] = [
+    ("pair twice", &[(COLLIDER1_2, 10), (COLLIDER2_2, 20)]),
+    (
+        "pair twice, turned",
+        &[(COLLIDER1_2, 20), (COLLIDER2_2, 10)],
+    ),
+    (
+        "lone collider twice",
+        &[
+            (COLLIDER1_0, 7),
+            (COLLIDER2_0, 7),
+            (COLLIDER1_2, 7),
+            (COLLIDER2_2, 7),
+        ],
+    ),
+    ("place of the other", &[(PAIR_INDEX_0, 1)]),
+    ("place past the list", &[(PAIR_INDEX_0, 2)]),
+    ("largest place", &[(PAIR_INDEX_2, LARGEST)]),
+    ("listed twice", &[(LIST_1, 0)]),
+    ("list turned", &[(GRAPH_LIST, 2), (LIST_1, 0)]),
+];
+
+// Each mark of the record that begins at a place becomes 2.
+fn print_record_marks<W: Write>(out: &mut W, name: &str, at: u32) -> io::Result<()> {
+    for mark in MARKS {
+        write!(out, "{name}\t{mark}")?;
+        print_damage(out, "", &[(at.wrapping_add(mark), 2)])?;
     }
     Ok(())
 }
 
 pub fn print_marks<W: Write>(out: &mut W) -> io::Result<()> {
-    print_record_marks(out, b"mark", RECORD_0)?;
-    print_record_marks(out, b"mark of the last", RECORD_2)
-}
-
-pub fn print_counts<W: Write>(out: &mut W) -> io::Result<()> {
-    print_case(out, b"7 manifolds", &[MANIFOLDS_0, TOO_MANY_MANIFOLDS])?;
-    print_case(
-        out,
-        b"7 manifolds of the last",
-        &[MANIFOLDS_2, TOO_MANY_MANIFOLDS],
-    )?;
-    print_case(
-        out,
-        b"5 points",
-        &[MANIFOLDS_0, 1, POINTS_0, TOO_MANY_POINTS],
-    )?;
-    print_case(
-        out,
-        b"5 points in manifold 6",
-        &[MANIFOLDS_0, MANIFOLDS, POINTS_5, TOO_MANY_POINTS],
-    )?;
-    print_case(
-        out,
-        b"5 given, all known",
-        &[
-            GRAPH_GIVEN,
-            OVER_CAPACITY,
-            GRAPH_FREED,
-            3,
-            FREE_1,
-            3,
-            FREE_2,
-            4,
-        ],
-    )?;
-    print_case(out, b"5 listed", &[GRAPH_LISTED, OVER_CAPACITY])?;
-    print_case(out, b"5 free", &[GRAPH_FREED, OVER_CAPACITY])?;
-    print_case(out, b"largest given", &[GRAPH_GIVEN, LARGEST])?;
-    print_case(out, b"largest listed", &[GRAPH_LISTED, LARGEST])?;
-    print_case(out, b"largest free", &[GRAPH_FREED, LARGEST])
-}
-
-pub fn print_ids<W: Write>(out: &mut W) -> io::Result<()> {
-    print_case(out, b"free twice", &[GRAPH_FREED, 2, FREE_1, 1])?;
-    print_case(out, b"free and standing", &[GRAPH_FREED, 2, FREE_1, 0])?;
-    print_case(
-        out,
-        b"free and listed",
-        &[GRAPH_LISTED, 3, LIST_2, 1, PAIR_INDEX_1, 2],
-    )?;
-    print_case(
-        out,
-        b"free and listed, another's place",
-        &[GRAPH_LISTED, 3, LIST_2, 1, PAIR_INDEX_1, 0],
-    )?;
-    print_case(out, b"neither, none free", &[GRAPH_FREED, 0])?;
-    print_case(out, b"neither, one more given", &[GRAPH_GIVEN, 4])?;
-    print_case(
-        out,
-        b"listed, never given",
-        &[
-            GRAPH_LISTED,
-            3,
-            LIST_2,
-            3,
-            COLLIDER1_3,
-            1,
-            COLLIDER2_3,
-            2,
-            PAIR_INDEX_3,
-            2,
-        ],
-    )?;
-    print_case(out, b"largest listed id", &[LIST_1, LARGEST])?;
-    print_case(out, b"free, never given", &[GRAPH_FREED, 2, FREE_1, 3])?;
-    print_case(out, b"largest free id", &[GRAPH_FREED, 2, FREE_1, LARGEST])
-}
-
-pub fn print_pairs<W: Write>(out: &mut W) -> io::Result<()> {
-    print_case(out, b"pair twice", &[COLLIDER1_2, 10, COLLIDER2_2, 20])?;
-    print_case(
-        out,
-        b"pair twice, turned",
-        &[COLLIDER1_2, 20, COLLIDER2_2, 10],
-    )?;
-    print_case(
-        out,
-        b"lone collider twice",
-        &[
-            COLLIDER1_0,
-            7,
-            COLLIDER2_0,
-            7,
-            COLLIDER1_2,
-            7,
-            COLLIDER2_2,
-            7,
-        ],
-    )?;
-    print_case(out, b"place of the other", &[PAIR_INDEX_0, 1])?;
-    print_case(out, b"place past the list", &[PAIR_INDEX_0, 2])?;
-    print_case(out, b"largest place", &[PAIR_INDEX_2, LARGEST])?;
-    print_case(out, b"listed twice", &[LIST_1, 0])?;
-    print_case(out, b"list turned", &[GRAPH_LIST, 2, LIST_1, 0])
+    print_record_marks(out, "mark", RECORD_0)?;
+    print_record_marks(out, "mark of the last", RECORD_2)
 }

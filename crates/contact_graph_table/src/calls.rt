@@ -1,109 +1,92 @@
 // 600 calls on a graph of capacity 8: fifty with more additions, fifty with more removals, and so on.
 use crate::draws::{draw, id, request};
-use crate::recorded::{CAPACITY, GRAPH_LENGTH, print_recorded};
-use case_draws::line::{print_count, print_end, print_name, print_refused};
-use collider::optional::OptionalBody;
-use contact_graph::add::{AddAnswer, add};
+use crate::recorded::print_recorded;
+use case_draws::line::{Id, print_answer};
+use case_draws::numbers::{GRAPH_CONTACT_SIZE, GRAPH_LIST};
+use contact_graph::add::add;
 use contact_graph::call::{ContactEdge, Request};
-use contact_graph::lay_out::{LayOutAnswer, lay_out};
-use contact_graph::look_up::{LookUpAnswer, look_up};
-use contact_graph::remove::{RemoveAnswer, remove};
+use contact_graph::lay_out::lay_out;
+use contact_graph::look_up::look_up;
+use contact_graph::remove::remove;
 use contact_types::contact_id::ContactId;
+use contact_types::refusal::Refusal;
 use math::bits::bits_of;
-use std::io;
 use std::io::Write;
+use std::{fmt, io};
 
-pub fn print_laid_out<W: Write>(out: &mut W, answer: LayOutAnswer) -> io::Result<()> {
-    match answer {
-        LayOutAnswer::Done => print_name(out, b"\tdone"),
-        LayOutAnswer::Refused(r) => print_refused(out, r.number()),
-    }
+const CAPACITY: u32 = 8;
+
+const GRAPH_LENGTH: usize = (GRAPH_LIST + GRAPH_CONTACT_SIZE * CAPACITY) as usize;
+
+pub fn print_done<W: Write>(out: &mut W, answer: Result<(), Refusal>) -> io::Result<()> {
+    print_answer(out, answer.map(|()| "done").map_err(|r| r.number()))
 }
 
-pub fn print_added<W: Write>(out: &mut W, answer: AddAnswer) -> io::Result<()> {
-    match answer {
-        AddAnswer::Added(id) => {
-            print_name(out, b"\tid")?;
-            print_count(out, id.0)
+pub fn print_added<W: Write>(out: &mut W, answer: Result<ContactId, Refusal>) -> io::Result<()> {
+    print_answer(out, answer.map(|id| Id(id.0)).map_err(|r| r.number()))
+}
+
+// A body's number, or that there is none.
+#[derive(Clone, Copy)]
+struct Body(Option<u32>);
+
+impl fmt::Display for Body {
+    fn fmt<W: fmt::Write>(&self, f: &mut fmt::Formatter<W>) -> fmt::Result {
+        match self.0 {
+            Some(n) => write!(f, "{n}"),
+            None => f.write_str("none"),
         }
-        AddAnswer::Refused(r) => print_refused(out, r.number()),
     }
 }
 
-fn print_removed<W: Write>(out: &mut W, answer: RemoveAnswer) -> io::Result<()> {
-    match answer {
-        RemoveAnswer::Done => print_name(out, b"\tdone"),
-        RemoveAnswer::Refused(r) => print_refused(out, r.number()),
-    }
-}
+#[derive(Clone, Copy)]
+struct Edge(ContactEdge);
 
-fn print_body<W: Write>(out: &mut W, body: OptionalBody) -> io::Result<()> {
-    match body {
-        OptionalBody::Named(n) => print_count(out, n),
-        OptionalBody::Unnamed => print_name(out, b"\tnone"),
-    }
-}
-
-fn print_mark<W: Write>(out: &mut W, mark: bool) -> io::Result<()> {
-    if mark {
-        print_count(out, 1)
-    } else {
-        print_count(out, 0)
-    }
-}
-
-fn print_edge<W: Write>(out: &mut W, e: ContactEdge) -> io::Result<()> {
-    let body1 = e.body1;
-    let body2 = e.body2;
-    print_name(out, b"\tedge")?;
-    print_count(out, e.id.0)?;
-    print_count(out, e.collider1)?;
-    print_count(out, e.collider2)?;
-    print_body(out, body1)?;
-    print_body(out, body2)?;
-    print_count(out, e.pair_index)?;
-    print_mark(out, e.touching)?;
-    print_mark(out, e.contact_events)
-}
-
-fn print_found<W: Write>(out: &mut W, answer: LookUpAnswer) -> io::Result<()> {
-    match answer {
-        LookUpAnswer::Found(e) => print_edge(out, e),
-        LookUpAnswer::Refused(r) => print_refused(out, r.number()),
+impl fmt::Display for Edge {
+    fn fmt<W: fmt::Write>(&self, f: &mut fmt::Formatter<W>) -> fmt::Result {
+        let e = self.0;
+        write!(f, "edge\t{}\t{}\t{}", e.id.0, e.collider1, e.collider2)?;
+        write!(f, "\t{}\t{}", Body(e.body1), Body(e.body2))?;
+        write!(f, "\t{}", e.pair_index)?;
+        write!(f, "\t{}", u32::from(e.touching))?;
+        write!(f, "\t{}", u32::from(e.contact_events))
     }
 }
 
 fn print_request<W: Write>(out: &mut W, a: Request) -> io::Result<()> {
-    print_count(out, a.collider1)?;
-    print_count(out, a.collider2)?;
-    print_count(out, a.has_body1)?;
-    print_count(out, a.body1)?;
-    print_count(out, a.has_body2)?;
-    print_count(out, a.body2)?;
-    print_count(out, a.contact_events)?;
-    print_count(out, a.modify_contacts)?;
-    print_count(out, bits_of(a.speculative_distance))
+    let words = [
+        a.collider1,
+        a.collider2,
+        a.has_body1,
+        a.body1,
+        a.has_body2,
+        a.body2,
+        a.contact_events,
+        a.modify_contacts,
+        bits_of(a.speculative_distance),
+    ];
+    for word in words {
+        write!(out, "\t{word}")?;
+    }
+    Ok(())
 }
 
 fn print_add<W: Write>(out: &mut W, graph: &mut [u32], key: u32) -> io::Result<()> {
     let a = request(key);
-    print_name(out, b"add")?;
+    write!(out, "add")?;
     print_request(out, a)?;
     print_added(out, add(graph, a))
 }
 
-fn print_remove<W: Write>(out: &mut W, graph: &mut [u32], key: u32) -> io::Result<()> {
-    let id = id(key);
-    print_name(out, b"remove")?;
-    print_count(out, id)?;
-    print_removed(out, remove(graph, ContactId(id)))
+fn print_remove<W: Write>(out: &mut W, graph: &mut [u32], id: u32) -> io::Result<()> {
+    write!(out, "remove\t{id}")?;
+    print_done(out, remove(graph, ContactId(id)))
 }
 
-fn print_look_up<W: Write>(out: &mut W, graph: &[u32], key: u32) -> io::Result<()> {
-    let id = id(key);
-    print_name(out, b"look_up")?;
-    print_count(out, id)?;
-    print_found(out, look_up(graph, ContactId(id)))
+fn print_look_up<W: Write>(out: &mut W, graph: &[u32], id: u32) -> io::Result<()> {
+    write!(out, "look_up\t{id}")?;
+    let found = look_up(graph, ContactId(id));
+    print_answer(out, found.map(|e| Edge(e)).map_err(|r| r.number()))
 }
 
 // How many of ten calls are additions, removals, look ups: 6, 2, 2 or 2, 6, 2.
@@ -114,32 +97,20 @@ fn print_call<W: Write>(out: &mut W, graph: &mut [u32], c: u32) -> io::Result<()
     if kind < additions {
         print_add(out, graph, key)
     } else if kind < 8 {
-        print_remove(out, graph, key)
+        print_remove(out, graph, id(key))
     } else {
-        print_look_up(out, graph, key)
+        print_look_up(out, graph, id(key))
     }
-}
-
-fn print_calls<W: Write>(out: &mut W, graph: &mut [u32]) -> io::Result<()> {
-    let mut c = 0;
-    while c < 600 {
-        print_call(out, graph, c)?;
-        print_recorded(out, graph)?;
-        print_end(out)?;
-        c += 1;
-    }
-    Ok(())
-}
-
-fn print_start<W: Write>(out: &mut W, graph: &mut [u32]) -> io::Result<()> {
-    print_name(out, b"lay_out\t8")?;
-    print_laid_out(out, lay_out(graph, CAPACITY))?;
-    print_recorded(out, graph)?;
-    print_end(out)
 }
 
 pub fn print_graph<W: Write>(out: &mut W) -> io::Result<()> {
     let mut graph = [0u32; GRAPH_LENGTH];
-    print_start(out, &mut graph)?;
-    print_calls(out, &mut graph)
+    write!(out, "lay_out\t{CAPACITY}")?;
+    print_done(out, lay_out(&mut graph, CAPACITY))?;
+    print_recorded(out, &graph)?;
+    for c in 0..600 {
+        print_call(out, &mut graph, c)?;
+        print_recorded(out, &graph)?;
+    }
+    Ok(())
 }

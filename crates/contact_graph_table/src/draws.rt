@@ -1,6 +1,5 @@
-// The draws that the calls are made of: by a key and the choice's number. The seed is 20261.
-ghost use Rattle.std.specs.Prelude.{◌<◌};
-
+// The draws that the calls are made of: by a key and the choice's number.
+use case_draws::draws::{pick, seeded};
 use case_draws::numbers::MOST_CONTACTS;
 use contact_graph::call::Request;
 use contact_types::contact_id::ContactId;
@@ -17,18 +16,10 @@ const DISTANCES: [u32; 6] = [
     0x7f80_0000,
 ];
 
-// The lowest 32 bits.
-pub fn low(x: u64) -> u64
-    ensures { result < 4294967296 }
-{
-    x % 4294967296
-}
+const SEED: u32 = 20261;
 
 pub fn draw(key: u32, slot: u32) -> u32 {
-    let a = low(key as u64 + slot as u64 * 2654435769 + 20261);
-    let b = low((a + a / 65536) * 2246822519);
-    let c = low((b + b / 32768) * 3266489917);
-    low(c + c / 65536) as u32
+    seeded(SEED, key, slot)
 }
 
 // One of six colliders, at times one out of range.
@@ -67,7 +58,7 @@ pub fn request(key: u32) -> Request {
         body2: body(key, 6),
         contact_events: mark(key, 7),
         modify_contacts: mark(key, 8),
-        speculative_distance: float_of(DISTANCES[(draw(key, 9) % 6) as usize]),
+        speculative_distance: float_of(pick(&DISTANCES, draw(key, 9))),
     }
 }
 

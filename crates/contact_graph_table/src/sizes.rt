@@ -1,8 +1,7 @@
 // Capacities and lengths that are refused, and a graph of the largest capacity filled to the last contact.
-use crate::calls::{print_added, print_laid_out};
-use case_draws::line::{print_count, print_end, print_name};
+use crate::calls::{print_added, print_done};
 use case_draws::numbers::{GRAPH_CONTACT_SIZE, GRAPH_LIST, MOST_CONTACTS};
-use contact_graph::add::{AddAnswer, add};
+use contact_graph::add::add;
 use contact_graph::call::Request;
 use contact_graph::lay_out::lay_out;
 use layout::limits::COLLIDERS;
@@ -30,32 +29,29 @@ const ALMOST_ALL: u32 = MOST_CONTACTS - 1;
 const HALF: u32 = COLLIDERS / 2;
 
 fn print_lay_out<W: Write>(out: &mut W, graph: &mut [u32], capacity: u32) -> io::Result<()> {
-    print_name(out, b"lay_out")?;
-    print_count(out, capacity)?;
-    print_laid_out(out, lay_out(graph, capacity))?;
-    print_end(out)
+    write!(out, "lay_out\t{capacity}")?;
+    print_done(out, lay_out(graph, capacity))?;
+    writeln!(out)
 }
 
 // The length for 1, that for 0, and one word less and one more than that for 1.
 pub fn print_refused<W: Write>(out: &mut W) -> io::Result<()> {
     let mut one = [0u32; FOR_ONE];
-    print_lay_out(out, &mut one, 1)?;
-    print_lay_out(out, &mut one, 0)?;
-    print_lay_out(out, &mut one, 2)?;
-    print_lay_out(out, &mut one, 4294967295)?;
-    let mut none = [0u32; FOR_NONE];
-    print_lay_out(out, &mut none, 0)?;
-    let mut less = [0u32; LESS];
-    print_lay_out(out, &mut less, 1)?;
-    let mut more = [0u32; MORE];
-    print_lay_out(out, &mut more, 1)
+    for capacity in [1, 0, 2, u32::MAX] {
+        print_lay_out(out, &mut one, capacity)?;
+    }
+    print_lay_out(out, &mut [0u32; FOR_NONE], 0)?;
+    print_lay_out(out, &mut [0u32; LESS], 1)?;
+    print_lay_out(out, &mut [0u32; MORE], 1)
 }
 
 // The length for one more than the most.
 pub fn print_too_large<W: Write>(out: &mut W) -> io::Result<()> {
     let mut graph = [0u32; FOR_TOO_MANY];
-    print_lay_out(out, &mut graph, TOO_MANY_CONTACTS)?;
-    print_lay_out(out, &mut graph, MOST_CONTACTS)
+    for capacity in [TOO_MANY_CONTACTS, MOST_CONTACTS] {
+        print_lay_out(out, &mut graph, capacity)?;
+    }
+    Ok(())
 }
 
 // The c-th of many pairs.
@@ -73,22 +69,13 @@ fn nth(c: u32) -> Request {
     }
 }
 
-fn taken(answer: AddAnswer) -> bool {
-    match answer {
-        AddAnswer::Added(_) => true,
-        AddAnswer::Refused(_) => false,
-    }
-}
-
 // How many additions are accepted: all but one of those that there is room for.
 fn fill(graph: &mut [u32]) -> u32 {
     let mut count = 0;
-    let mut c = 0;
-    while c < ALMOST_ALL {
-        if taken(add(graph, nth(c))) {
+    for c in 0..ALMOST_ALL {
+        if add(graph, nth(c)).is_ok() {
             count += 1;
         }
-        c += 1;
     }
     count
 }
@@ -96,9 +83,9 @@ fn fill(graph: &mut [u32]) -> u32 {
 pub fn print_full<W: Write>(out: &mut W) -> io::Result<()> {
     let mut graph = [0u32; FOR_MOST];
     print_lay_out(out, &mut graph, MOST_CONTACTS)?;
-    print_name(out, b"fill")?;
-    print_count(out, fill(&mut graph))?;
-    print_added(out, add(&mut graph, nth(ALMOST_ALL)))?;
-    print_added(out, add(&mut graph, nth(MOST_CONTACTS)))?;
-    print_end(out)
+    write!(out, "fill\t{}", fill(&mut graph))?;
+    for c in [ALMOST_ALL, MOST_CONTACTS] {
+        print_added(out, add(&mut graph, nth(c)))?;
+    }
+    writeln!(out)
 }

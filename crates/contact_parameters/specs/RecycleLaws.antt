@@ -1,7 +1,6 @@
 -- What the recycle test's branches say: each test that holds abandons recycling, and so no NaN does. Assumes nothing.
-use Rattle.std.specs.Prelude.{◌≡◌, Bool, true, false, Float}
+use Rattle.std.specs.Prelude.{◌≡◌, Bool, true, false, Float, Option, None, Some}
 use Rattle.std.proofs.Math.Path.{refl}
-use Rattle.std.proofs.Math.Option.{Option, none, some}
 use Rattle.std.specs.Float.{nan}
 use Rattle.std.specs.Float.Ieee.{le}
 use Rattle.math.specs.Constants.{zero_f}
@@ -16,14 +15,14 @@ use Rattle.rules.specs.Sides.{Side}
 module _ (s : Settings) (touching : Bool) (a b : Side) where
   pub recycling_off_lem : (o : Option Cache) → le (scaled_recycle s) zero_f ≡ true → false ≡ recycles s touching a b o
   unfolding recycles
-  recycling_off_lem none p = refl
-  recycling_off_lem (some k) p = rw p
+  recycling_off_lem None p = refl
+  recycling_off_lem (Some k) p = rw p
 
-  pub recycle_none : (o : Option Cache) → o ≡ none → false ≡ recycles s touching a b o
+  pub recycle_none : (o : Option Cache) → o ≡ None → false ≡ recycles s touching a b o
   unfolding recycles
   recycle_none o e = rw e
 
-  module _ (o : Option Cache) (k : Cache) (e : o ≡ some k) (on : le (scaled_recycle s) zero_f ≡ false) where
+  module _ (o : Option Cache) (k : Cache) (e : o ≡ Some k) (on : le (scaled_recycle s) zero_f ≡ false) where
     pub rotated_too_far_lem : {t : Float} → t ≡ least_squared_dot a b k → le t s.recycle_cosine ≡ true → false ≡ recycles s touching a b o
     unfolding recycles
     rotated_too_far_lem p q = rw (e, on, ← p, q)

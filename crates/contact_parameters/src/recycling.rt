@@ -1,4 +1,5 @@
 // Whether a pair's contacts are recycled, and how: rules 4 and 5. The recycle block of avian's `update_contacts`.
+// The sides a and b stay two arguments: each function asks something of each, and a struct of both would be taken apart in all of them.
 ghost use Rattle.std.specs.Prelude.{◌≡◌};
 ghost use Rattle.rules.specs.Recycling.{scaled_tolerance, scaled_recycle, tolerance_for, radius, least_squared_dot, squared_motion, arc, recycles};
 ghost use Rattle.contact_parameters.specs.Motions.{motion_of};
@@ -7,19 +8,20 @@ ghost use Rattle.contact_records.specs.StateViews.{cached_of, cache_of};
 
 use collider::settings::Settings;
 use collider::side::Side;
-use contact_records::state::RecyclingCache;
 use contact_types::contact_manifold::ContactRecyclingCache;
 use math::choose::{maximum, minimum};
 use math::mat::Mat3;
 use math::root::root;
 use math::vec::Vec3;
 
+#[tactic(auto, unfolding(rules::specs::Recycling::scaled_tolerance))]
 pub fn scaled_tolerance(s: Settings) -> f32
     ensures { result ≡ scaled_tolerance (plain_settings s) }
 {
     s.length_unit * s.contact_tolerance
 }
 
+#[tactic(auto, unfolding(rules::specs::Recycling::scaled_recycle))]
 pub fn scaled_recycle(s: Settings) -> f32
     ensures { result ≡ scaled_recycle (plain_settings s) }
 {
@@ -27,6 +29,7 @@ pub fn scaled_recycle(s: Settings) -> f32
 }
 
 // A pair that does not touch is held to the contact tolerance too.
+#[tactic(auto, unfolding(rules::specs::Recycling::tolerance_for))]
 fn tolerance_for(s: Settings, touching: bool) -> f32
     ensures { result ≡ tolerance_for (plain_settings s) touching }
 {
@@ -37,12 +40,14 @@ fn tolerance_for(s: Settings, touching: bool) -> f32
 }
 
 // A static body sweeps nothing.
+#[tactic(auto, unfolding(rules::specs::Recycling::radius))]
 fn sweep(a: Side) -> f32
     ensures { result ≡ radius (plain_side a) }
 {
     if a.is_static { 0.0 } else { a.sweep_radius }
 }
 
+#[tactic(auto, unfolding(rules::specs::Recycling::least_squared_dot))]
 fn least_squared_dot(a: Side, b: Side, k: ContactRecyclingCache) -> f32
     ensures { result ≡ least_squared_dot (plain_side a) (plain_side b) (cached_of k) }
 {
@@ -51,6 +56,7 @@ fn least_squared_dot(a: Side, b: Side, k: ContactRecyclingCache) -> f32
     minimum(angle1 * angle1, angle2 * angle2)
 }
 
+#[tactic(auto, unfolding(rules::specs::Recycling::squared_motion))]
 fn squared_motion(a: Side, b: Side, k: ContactRecyclingCache) -> f32
     ensures { result ≡ squared_motion (plain_side a) (plain_side b) (cached_of k) }
 {
@@ -58,6 +64,7 @@ fn squared_motion(a: Side, b: Side, k: ContactRecyclingCache) -> f32
     relative.position.distance_squared(k.relative_translation)
 }
 
+#[tactic(auto, unfolding(rules::specs::Recycling::arc))]
 fn arc_length(a: Side, b: Side, k: ContactRecyclingCache) -> f32
     ensures { result ≡ arc (plain_side a) (plain_side b) (cached_of k) }
 {
@@ -66,30 +73,32 @@ fn arc_length(a: Side, b: Side, k: ContactRecyclingCache) -> f32
     delta.chord_length() * maximum(sweep(a), sweep(b))
 }
 
-// Left from each test that abandons recycling. A NaN abandons nothing.
-pub fn recycle(s: Settings, touching: bool, a: Side, b: Side, cache: RecyclingCache) -> bool
+// Each test that holds abandons recycling. A NaN abandons nothing.
+#[tactic(auto, unfolding(rules::specs::Recycling::recycles))]
+pub fn recycle(
+    s: Settings,
+    touching: bool,
+    a: Side,
+    b: Side,
+    cache: Option<ContactRecyclingCache>,
+) -> bool
     ensures { result ≡ recycles (plain_settings s) touching (plain_side a) (plain_side b) (cache_of cache) }
 {
-    'recycle: loop {
-        if scaled_recycle(s) <= 0.0 {
-            break 'recycle false;
-        }
-        let RecyclingCache::Cached(k) = cache else {
-            break 'recycle false;
-        };
-        if least_squared_dot(a, b, k) <= s.recycle_cosine {
-            break 'recycle false;
-        }
-        let tolerance = tolerance_for(s, touching);
-        let squared = squared_motion(a, b, k);
-        if squared >= tolerance * tolerance {
-            break 'recycle false;
-        }
-        if arc_length(a, b, k) >= tolerance - root(squared) {
-            break 'recycle false;
-        }
-        break 'recycle true;
+    if scaled_recycle(s) <= 0.0 {
+        return false;
     }
+    let Some(k) = cache else {
+        return false;
+    };
+    if least_squared_dot(a, b, k) <= s.recycle_cosine {
+        return false;
+    }
+    let tolerance = tolerance_for(s, touching);
+    let squared = squared_motion(a, b, k);
+    if squared >= tolerance * tolerance {
+        return false;
+    }
+    !(arc_length(a, b, k) >= tolerance - root(squared))
 }
 
 // How far the two bodies have turned and moved since the cache was made: once for a pair.
@@ -101,16 +110,17 @@ pub struct Motion {
     pub between: Vec3,
 }
 
+#[tactic(auto, unfolding(crate::specs::Motions::motion_of))]
 pub fn motion_of(a: Side, b: Side, k: ContactRecyclingCache) -> Motion
     ensures { result ≡ motion_of (plain_side a) (plain_side b) (cached_of k) }
 {
     let delta1 = a.pose.rotation.mul_quat(k.rotation1.inverse());
     let delta2 = b.pose.rotation.mul_quat(k.rotation2.inverse());
-    let centres = b.world_com.sub(a.world_com);
-    let positions = b.pose.position.sub(a.pose.position);
+    let centres = b.world_com - a.world_com;
+    let positions = b.pose.position - a.pose.position;
     Motion {
         turn1: Mat3::from_quat(delta1),
         turn2: Mat3::from_quat(delta2),
-        between: centres.add(positions),
+        between: centres + positions,
     }
 }

@@ -13,22 +13,17 @@ use contact_types::contact_manifold::ContactRecyclingCache;
 pub fn cache_of(a: Side, b: Side) -> ContactRecyclingCache
     ensures { cached_of result ≡ cache_of (plain_side a) (plain_side b) }
 {
-    let pose1 = a.pose;
-    let pose2 = b.pose;
-    let relative = pose1.relative(pose2);
-    let rotation1 = pose1.rotation;
-    let rotation2 = pose2.rotation;
-    let relative_translation = relative.position;
-    let relative_rotation = relative.rotation;
+    let relative = a.pose.relative(b.pose);
     ContactRecyclingCache {
-        rotation1,
-        rotation2,
-        relative_translation,
-        relative_rotation,
+        rotation1: a.pose.rotation,
+        rotation2: b.pose.rotation,
+        relative_translation: relative.position,
+        relative_rotation: relative.rotation,
     }
 }
 
 // Both bodies are there, and no collider is a sensor.
+#[tactic(auto, unfolding(rules::specs::Update::enabled))]
 pub fn is_enabled(c1: ColliderRecord, c2: ColliderRecord, a: Side, b: Side) -> bool
     ensures { result ≡ enabled (plain_collider c1) (plain_collider c2) (plain_side a) (plain_side b) }
 {
@@ -36,6 +31,7 @@ pub fn is_enabled(c1: ColliderRecord, c2: ColliderRecord, a: Side, b: Side) -> b
 }
 
 // `touching`, `generate_constraints`, `static1` and `static2` are overwritten; the started and stopped marks are set, never cleared; the rest stay.
+#[tactic(auto, unfolding(rules::specs::Update::renewed_flags))]
 pub fn renewed_flags(
     f: ContactPairFlags,
     static1: bool,
@@ -68,6 +64,7 @@ pub fn count_change(old: u32, new: u32) -> i32
 }
 
 // A start of generating, a start or stop of touching, or a count change other than 0.
+#[tactic(auto, using(crate::specs::ChangeLaws::zero_word), unfolding(rules::specs::Update::status_bit))]
 pub fn status_bit(f: ContactPairFlags, enabled: bool, touching: bool, change: i32) -> bool
     ensures { result ≡ status_bit (flags_of f) enabled touching change }
 {

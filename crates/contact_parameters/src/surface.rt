@@ -20,6 +20,7 @@ pub struct Surface {
     pub effective_speculative: f32,
 }
 
+#[tactic(auto, unfolding(rules::specs::Surface::surface_of))]
 pub fn surface_of(
     s: Settings,
     c1: ColliderRecord,

@@ -8,19 +8,20 @@ ghost use Rattle.contact_range.specs.Recorded.{given_of, listed_count, listed_at
 ghost use Rattle.contact_range.specs.Conditions.{RightLength, index_at, pair_blocks, Counted, ListedGiven, Standing, FreeTaken, Unmarked, FreeMarked, listed_fits, free_fits, pair_number};
 ghost use Rattle.words.specs.Words.{word_at};
 
-use crate::places::{contact_at, free_at, id_at, number_at};
+use crate::places::{contact_at, free_at, id_at};
 use contact_types::contact_id::ContactId;
 use data_structures::bit_vec::{get, set};
 use data_structures::pair_key::PairKey;
 use layout::bits::MOST_BLOCKS;
 use layout::contact::{
     CONTACT_BODY1, CONTACT_BODY2, CONTACT_CACHE, CONTACT_COLLIDER2, CONTACT_EDGE_FLAGS,
-    CONTACT_MANIFOLDS, CONTACT_PAIR_INDEX, CONTACT_SIZE, MARKS_SIZE,
+    CONTACT_FIRST_MANIFOLD, CONTACT_MANIFOLDS, CONTACT_PAIR_INDEX, CONTACT_SIZE, MARKS_SIZE,
 };
 use layout::graph::{GRAPH_CAPACITY, GRAPH_FREED, GRAPH_GIVEN, GRAPH_LIST, GRAPH_LISTED};
 use layout::limits::{BODIES, COLLIDERS, MANIFOLDS, MOST_CONTACTS, STORED_POINTS};
 use layout::manifold::MANIFOLD_SIZE;
-use words::row::load_word;
+use words::load::load;
+use words::row::mark_fits;
 
 // Bit words for a mark of every pair of colliders.
 const PAIR_BLOCKS: usize = 1024;
@@ -32,7 +33,7 @@ pub fn right_length(graph: &[u32]) -> bool
     if graph.len() == 0 {
         return false;
     }
-    let capacity = number_at(graph, GRAPH_CAPACITY);
+    let capacity = load::<usize>(graph, GRAPH_CAPACITY);
     if capacity == 0 {
         return false;
     }
@@ -47,95 +48,69 @@ fn body_fits(graph: &[u32], at: usize) -> bool
     requires { at + 2 ≤ length graph.now }
     ensures { result ≡ optional_fits bodies graph.now at }
 {
-    let mark = load_word(graph, at);
+    let mark = load::<u32>(graph, at);
     if 2 <= mark {
         return false;
     }
     if mark == 1 {
-        return load_word(graph, at + 1) < BODIES;
+        return load::<u32>(graph, at + 1) < BODIES;
     }
     true
 }
 
 // The numbers of colliders and bodies in the record that begins at `at`.
+#[tactic(auto, unfolding(crate::specs::Range::names_fit))]
 fn names_fit(graph: &[u32], at: usize) -> bool
     requires { at + contact_size ≤ length graph.now }
     ensures { result ≡ names_fit graph.now at }
 {
-    if COLLIDERS <= load_word(graph, at) {
-        return false;
-    }
-    if COLLIDERS <= load_word(graph, at + CONTACT_COLLIDER2) {
-        return false;
-    }
-    if !body_fits(graph, at + CONTACT_BODY1) {
-        return false;
-    }
-    body_fits(graph, at + CONTACT_BODY2)
+    load::<u32>(graph, at) < COLLIDERS
+        && load::<u32>(graph, at + CONTACT_COLLIDER2) < COLLIDERS
+        && body_fits(graph, at + CONTACT_BODY1)
+        && body_fits(graph, at + CONTACT_BODY2)
 }
 
 // The edge's two marks and the pair's nine, and the cache's.
+#[tactic(auto, unfolding(crate::specs::Range::marks_fit))]
 fn marks_fit(graph: &[u32], at: usize) -> bool
     requires { at + contact_size ≤ length graph.now }
     ensures { result ≡ marks_fit graph.now at }
 {
-    let mut k = 0;
-    while k < MARKS_SIZE {
-        if 2 <= load_word(graph, at + CONTACT_EDGE_FLAGS + k) {
-            return false;
-        }
-        k += 1;
-    }
-    load_word(graph, at + CONTACT_CACHE) < 2
+    (0..MARKS_SIZE).all(|k| mark_fits(graph, at + CONTACT_EDGE_FLAGS + k))
+        && mark_fits(graph, at + CONTACT_CACHE)
 }
 
 // At most 6 manifolds, and at most 4 points in each that is counted.
+#[tactic(auto, unfolding(crate::specs::Range::manifolds_fit))]
 fn manifolds_fit(graph: &[u32], at: usize) -> bool
     requires { at + contact_size ≤ length graph.now }
     ensures { result ≡ manifolds_fit graph.now at }
 {
-    let count = number_at(graph, at + CONTACT_MANIFOLDS);
-    if MANIFOLDS < count {
-        return false;
-    }
-    let mut k = 0;
-    while k < count {
-        let points = number_at(graph, at + CONTACT_MANIFOLDS + 1 + k * MANIFOLD_SIZE);
-        if STORED_POINTS < points {
-            return false;
-        }
-        k += 1;
-    }
-    true
+    let count = load::<usize>(graph, at + CONTACT_MANIFOLDS);
+    let first = at + CONTACT_FIRST_MANIFOLD;
+    let fits = |k| load::<usize>(graph, first + k * MANIFOLD_SIZE) <= STORED_POINTS;
+    count <= MANIFOLDS && (0..count).all(fits)
 }
 
 // The record that begins at `at`.
+#[tactic(auto, unfolding(crate::specs::Range::contact_fits))]
 pub fn contact_fits(graph: &[u32], at: usize) -> bool
     requires { at + contact_size ≤ length graph.now }
     ensures { result ≡ contact_fits graph.now at }
 {
-    if !names_fit(graph, at) {
-        return false;
-    }
-    if !marks_fit(graph, at) {
-        return false;
-    }
-    manifolds_fit(graph, at)
+    names_fit(graph, at) && marks_fit(graph, at) && manifolds_fit(graph, at)
 }
 
 // Ids given, listed and free: each count is at most the capacity.
+#[tactic(auto, unfolding(crate::specs::Range::counts_fit))]
 fn counts_fit(graph: &[u32]) -> bool
     requires { RightLength graph.now }
     ensures { result ≡ counts_fit graph.now }
 {
-    let capacity = number_at(graph, GRAPH_CAPACITY);
-    if capacity < number_at(graph, GRAPH_GIVEN) {
-        return false;
-    }
-    if capacity < number_at(graph, GRAPH_LISTED) {
-        return false;
-    }
-    number_at(graph, GRAPH_FREED) <= capacity
+    let capacity = load::<u32>(graph, GRAPH_CAPACITY);
+    load::<u32>(graph, GRAPH_GIVEN) <= capacity
+        && load::<u32>(graph, GRAPH_LISTED) <= capacity
+        && load::<u32>(graph, GRAPH_FREED) <= capacity
 }
 
 // A listed id was given.
@@ -143,16 +118,9 @@ fn listed_given(graph: &[u32]) -> bool
     requires { Counted graph.now }
     ensures { result ≡ listed_given graph.now }
 {
-    let given = number_at(graph, GRAPH_GIVEN);
-    let listed = number_at(graph, GRAPH_LISTED);
-    let mut p = 0;
-    while p < listed {
-        if given <= id_at(graph, GRAPH_LIST + p).0 as usize {
-            return false;
-        }
-        p += 1;
-    }
-    true
+    let given = load::<u32>(graph, GRAPH_GIVEN);
+    let listed = load::<usize>(graph, GRAPH_LISTED);
+    (0..listed).all(|p| id_at(graph, GRAPH_LIST + p).0 < given)
 }
 
 // The contact at a place of the list names that place, and its record is in range.
@@ -162,10 +130,7 @@ fn contact_listed(graph: &[u32], p: usize) -> bool
 {
     let id = id_at(graph, GRAPH_LIST + p);
     let at = contact_at(graph, id);
-    if number_at(graph, at + CONTACT_PAIR_INDEX) != p {
-        return false;
-    }
-    contact_fits(graph, at)
+    load::<usize>(graph, at + CONTACT_PAIR_INDEX) == p && contact_fits(graph, at)
 }
 
 // A list entry and its contact name each other, and the record of each listed contact is in range.
@@ -173,29 +138,17 @@ fn contacts_listed(graph: &[u32]) -> bool
     requires { ListedGiven graph.now }
     ensures { result ≡ (names_back graph.now && contacts_fit graph.now) }
 {
-    let listed = number_at(graph, GRAPH_LISTED);
-    let mut p = 0;
-    while p < listed {
-        if !contact_listed(graph, p) {
-            return false;
-        }
-        p += 1;
-    }
-    true
+    let listed = load::<usize>(graph, GRAPH_LISTED);
+    (0..listed).all(|p| contact_listed(graph, p))
 }
 
 // The counts, the list, and the records of the listed contacts.
+#[tactic(auto, unfolding(crate::specs::Conditions::listed_fits))]
 fn listed_fit(graph: &[u32]) -> bool
     requires { RightLength graph.now }
     ensures { result ≡ listed_fits graph.now }
 {
-    if !counts_fit(graph) {
-        return false;
-    }
-    if !listed_given(graph) {
-        return false;
-    }
-    contacts_listed(graph)
+    counts_fit(graph) && listed_given(graph) && contacts_listed(graph)
 }
 
 // A free id was given.
@@ -203,16 +156,9 @@ fn free_given(graph: &[u32]) -> bool
     requires { Counted graph.now }
     ensures { result ≡ free_given graph.now }
 {
-    let given = number_at(graph, GRAPH_GIVEN);
-    let freed = number_at(graph, GRAPH_FREED);
-    let mut k = 0;
-    while k < freed {
-        if given <= free_at(graph, k).0 as usize {
-            return false;
-        }
-        k += 1;
-    }
-    true
+    let given = load::<u32>(graph, GRAPH_GIVEN);
+    let freed = load::<usize>(graph, GRAPH_FREED);
+    (0..freed).all(|k| free_at(graph, k).0 < given)
 }
 
 // No id is free twice: each is marked, and none is marked already.
@@ -220,15 +166,13 @@ fn free_once(graph: &[u32], marks: &mut [u64]) -> bool
     requires { Counted graph.now × (free_given graph.now ≡ true) × (length marks.old ≡ most_blocks) × Unmarked marks.old }
     ensures { FreeMarked graph.now marks.new result }
 {
-    let freed = number_at(graph, GRAPH_FREED);
-    let mut k = 0;
-    while k < freed {
+    let freed = load::<usize>(graph, GRAPH_FREED);
+    for k in 0..freed {
         let id = free_at(graph, k);
         if get(marks, id.0 as usize) {
             return false;
         }
         set(marks, id.0 as usize);
-        k += 1;
     }
     true
 }
@@ -239,11 +183,8 @@ pub fn is_standing(graph: &[u32], id: ContactId) -> bool
     ensures { result ≡ stands graph.now id.0 }
 {
     let at = contact_at(graph, id);
-    let index = number_at(graph, at + CONTACT_PAIR_INDEX);
-    if number_at(graph, GRAPH_LISTED) <= index {
-        return false;
-    }
-    id_at(graph, GRAPH_LIST + index).0 == id.0
+    let index = load::<usize>(graph, at + CONTACT_PAIR_INDEX);
+    index < load::<usize>(graph, GRAPH_LISTED) && id_at(graph, GRAPH_LIST + index) == id
 }
 
 // No id is both free and standing.
@@ -251,16 +192,8 @@ fn free_apart(graph: &[u32]) -> bool
     requires { Standing graph.now × (free_given graph.now ≡ true) }
     ensures { result ≡ free_apart graph.now }
 {
-    let freed = number_at(graph, GRAPH_FREED);
-    let mut k = 0;
-    while k < freed {
-        let id = free_at(graph, k);
-        if is_standing(graph, id) {
-            return false;
-        }
-        k += 1;
-    }
-    true
+    let freed = load::<usize>(graph, GRAPH_FREED);
+    (0..freed).all(|k| !is_standing(graph, free_at(graph, k)))
 }
 
 // Whether an id stands or is free; the free ones are marked.
@@ -268,10 +201,7 @@ fn is_known(graph: &[u32], marks: &[u64], id: ContactId) -> bool
     requires { Standing graph.now × FreeTaken graph.now marks.now × (id.0 < given_of graph.now) }
     ensures { result ≡ (stands graph.now id.0 || is_free graph.now id.0) }
 {
-    if is_standing(graph, id) {
-        return true;
-    }
-    get(marks, id.0 as usize)
+    is_standing(graph, id) || get(marks, id.0 as usize)
 }
 
 // An id that was given stands or is free.
@@ -279,33 +209,21 @@ fn given_known(graph: &[u32], marks: &[u64]) -> bool
     requires { Standing graph.now × FreeTaken graph.now marks.now }
     ensures { result ≡ given_known graph.now }
 {
-    let given = number_at(graph, GRAPH_GIVEN);
-    let mut id = 0;
-    while id < given {
-        if !is_known(graph, marks, ContactId(id as u32)) {
-            return false;
-        }
-        id += 1;
-    }
-    true
+    let given = load::<u32>(graph, GRAPH_GIVEN);
+    (0..given).all(|id| is_known(graph, marks, ContactId(id)))
 }
 
 // The free ids, and those that were given.
+#[tactic(auto, unfolding(crate::specs::Conditions::free_fits))]
 fn free_fit(graph: &[u32]) -> bool
     requires { Standing graph.now }
     ensures { result ≡ free_fits graph.now }
 {
-    if !free_given(graph) {
-        return false;
-    }
     let mut marks = [0u64; MOST_BLOCKS];
-    if !free_once(graph, &mut marks) {
-        return false;
-    }
-    if !free_apart(graph) {
-        return false;
-    }
-    given_known(graph, &marks)
+    free_given(graph)
+        && free_once(graph, &mut marks)
+        && free_apart(graph)
+        && given_known(graph, &marks)
 }
 
 // A number for the pair of a contact's colliders, the same in either order.
@@ -314,8 +232,8 @@ fn pair_number(graph: &[u32], at: usize) -> usize
     ensures { result ≡ pair_number (word_at graph.now at) (word_at graph.now (at + 1)) }
 {
     let key = PairKey::new(
-        load_word(graph, at),
-        load_word(graph, at + CONTACT_COLLIDER2),
+        load::<u32>(graph, at),
+        load::<u32>(graph, at + CONTACT_COLLIDER2),
     );
     let ids = key.get();
     ids.lower as usize * COLLIDERS as usize + ids.higher as usize
@@ -326,9 +244,8 @@ fn pairs_differ(graph: &[u32], marks: &mut [u64]) -> bool
     requires { ListedGiven graph.now × (contacts_fit graph.now ≡ true) × (length marks.old ≡ pair_blocks) × Unmarked marks.old }
     ensures { result ≡ pairs_once graph.now }
 {
-    let listed = number_at(graph, GRAPH_LISTED);
-    let mut p = 0;
-    while p < listed {
+    let listed = load::<usize>(graph, GRAPH_LISTED);
+    for p in 0..listed {
         let id = id_at(graph, GRAPH_LIST + p);
         let at = contact_at(graph, id);
         let pair = pair_number(graph, at);
@@ -336,7 +253,6 @@ fn pairs_differ(graph: &[u32], marks: &mut [u64]) -> bool
             return false;
         }
         set(marks, pair);
-        p += 1;
     }
     true
 }
@@ -355,11 +271,5 @@ pub fn in_range(graph: &[u32]) -> bool
     requires { right_length graph.now ≡ true }
     ensures { result ≡ in_range graph.now }
 {
-    if !listed_fit(graph) {
-        return false;
-    }
-    if !pairs_once(graph) {
-        return false;
-    }
-    free_fit(graph)
+    listed_fit(graph) && pairs_once(graph) && free_fit(graph)
 }

@@ -1,11 +1,10 @@
 -- A row that holds a record's words has that record there: what was stored is loaded. Assumes nothing.
-use Rattle.std.specs.Prelude.{◌≡◌, Bool, true, false, T, eqb, Float, get_or}
+use Rattle.std.specs.Prelude.{◌≡◌, Bool, true, false, T, eqb, Float, get_or, Option, None, Some}
 use Rattle.std.proofs.Math.Path.{refl, ap}
 use Rattle.std.proofs.Common.{sym, ◌∙◌, subst, add_assoc, mul-le-mul_right, arith, inl, lit≤}
 use Prim.Native.Nat.{ℕ, suc, ◌+◌, ◌*◌, ◌-◌, ◌≤◌, ◌<◌}
 use Rattle.std.proofs.Math.Bool.{cond}
 use mathlib.Core.List.{List, [], ◌∷◌, ◌++◌, map}
-use Rattle.std.proofs.Math.Option.{Option, none, some}
 use Rattle.std.specs.Float.{binary32}
 use Rattle.std.specs.Float.Ieee.{of_bits}
 use Rattle.std.proofs.Math.ListN.{length, length-append}
@@ -158,13 +157,13 @@ module _ {xs : List ℕ} where
 
   pub cache_held : {at : ℕ} (c : Option Cache) → FitCached c → Holds xs at (cache_words c) → cache_at xs at ≡ c
   unfolding cache_at cache_words zeros
-  cache_held none f h = rw (first_held h)
-  cache_held {at} (some c) f h =
+  cache_held None f h = rw (first_held h)
+  cache_held {at} (Some c) f h =
       let g = f.each c refl in
       let a : List ℕ = 1 ∷ quat_words c.rotation1 in
       let b : List ℕ = a ++ quat_words c.rotation2 in
-      ap (λ (w : ℕ). cond (eqb w 1) (some (cached_at xs at)) none) (first_held h)
-      ∙ (λ i. some (record {
+      ap (λ (w : ℕ). cond (eqb w 1) (Some (cached_at xs at)) None) (first_held h)
+      ∙ (λ i. Some (record {
         rotation1 = quat_held c.rotation1 g.rotation1 (holds_left (quat_words c.rotation1) _ (holds_right (1 ∷ []) _ 1 refl h)) i;
         rotation2 = quat_held c.rotation2 g.rotation2 (holds_left (quat_words c.rotation2) _ (holds_right a _ 5 refl h)) i;
         relative_translation = vec3_held c.relative_translation g.relative_translation (holds_left (vec3_words c.relative_translation) _ (holds_right b _ 9 refl h)) i;
@@ -188,8 +187,8 @@ module _ {xs : List ℕ} where
 
   optional_held : {at : ℕ} (o : Option ℕ) → Holds xs at (optional_words o) → optional_at xs at ≡ o
   unfolding optional_words
-  optional_held none h = rw (first_held h)
-  optional_held (some n) h = λ i. cond (eqb (first_held h i) 1) (some (word_held h 1 tt i)) none
+  optional_held None h = rw (first_held h)
+  optional_held (Some n) h = λ i. cond (eqb (first_held h i) 1) (Some (word_held h 1 tt i)) None
 
   pub edge_held : {at : ℕ} (e : EdgeFlags) → Holds xs at (edge_words e) → edge_at xs at ≡ e
   unfolding edge_at edge_words

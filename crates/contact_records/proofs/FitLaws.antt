@@ -1,11 +1,10 @@
 -- What is loaded fits: every float is read from a word, and the lists are as long as the counts say. Assumes nothing.
-use Rattle.std.specs.Prelude.{◌≡◌, Bool, true, false, cond, List}
+use Rattle.std.specs.Prelude.{◌≡◌, Bool, true, false, cond, List, None, Some}
 use Rattle.std.proofs.Common.{sym, arith}
 use Rattle.std.proofs.Math.Path.{subst}
 use Prim.Native.Nat.{ℕ, ◌+◌, ◌*◌, ◌≤◌, ◌<◌}
-use Rattle.std.proofs.Math.Option.{none, some}
 use Rattle.rules.specs.Records.{Point, Manifold, Cache}
-use Rattle.words.specs.Words.{word_at}
+use Rattle.words.specs.Words.{word_at, mark_at}
 use Rattle.words.specs.WordLaws.{read_fits, vec3_fits, quat_fits}
 use Rattle.manifold_records.specs.Counts.{Counted}
 use Rattle.manifold_records.specs.ListLaws.{get_d_map_upto, length_map_upto}
@@ -14,7 +13,7 @@ use Rattle.contact_records.specs.Fit.{FitPoint, FitPoints, FitManifold, FitManif
 use Rattle.contact_records.proofs.IntLaws.{int_fits}
 use Rattle.layout.specs.Contact.{contact_manifolds}
 use Rattle.contact_records.specs.MadeLaws.{cached_at}
-use Rattle.contact_records.specs.Recorded.{mark_at, cache_at, pair_at}
+use Rattle.contact_records.specs.Recorded.{cache_at, pair_at}
 
 module _ (xs : List ℕ) where
   pub point_fits : (at : ℕ) → FitPoint (point_at xs at)
@@ -69,7 +68,7 @@ module _ (xs : List ℕ) where
       here : FitCache (cached_at xs at)
       here = record { rotation1 = quat_fits xs (at + 1); rotation2 = quat_fits xs (at + 5); relative_translation = vec3_fits xs (at + 9); relative_rotation = quat_fits xs (at + 12) }
 
-      go : (b : Bool) (c : Cache) → cond b (some (cached_at xs at)) none ≡ some c → FitCache c
+      go : (b : Bool) (c : Cache) → cond b (Some (cached_at xs at)) None ≡ Some c → FitCache c
       go true c e = subst FitCache (let q : cached_at xs at ≡ c = cc in q) here
       go false c e = absurd (let z : ◌≡◌ {A = ℕ} 0 1 = cc in omega arith)
 

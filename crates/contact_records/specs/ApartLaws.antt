@@ -1,10 +1,9 @@
 -- A record is what its words say: two rows with the same words there have the same record, so a store apart from it leaves it. Assumes nothing.
-use Rattle.std.specs.Prelude.{◌≡◌, ℕ, suc, ◌+◌, ◌*◌, ◌≤◌, ◌<◌, length}
+use Rattle.std.specs.Prelude.{◌≡◌, ℕ, suc, ◌+◌, ◌*◌, ◌≤◌, ◌<◌, length, None, Some}
 use Rattle.std.proofs.Math.Path.{ap}
 use Rattle.std.proofs.Common.{◌∙◌, suc-mul, mul-le-mul_right, arith, lit≤}
 use Rattle.std.proofs.Math.Bool.{cond}
 use mathlib.Core.List.{List, map}
-use Rattle.std.proofs.Math.Option.{none, some}
 use Rattle.std.proofs.Math.Dec.{eqb}
 use Rattle.std.specs.Float.Ieee.{binary32, of_bits}
 use Rattle.rows.specs.Rows.{part, put, Apart}
@@ -84,13 +83,13 @@ module _ {xs ys : List ℕ} where
   unfolding cache_at
   cache_same s =
       λ i. cond (eqb (first_same s tt i) 1)
-      (some (record {
+      (Some (record {
         rotation1 = quat_same (same_in s 1 4 (lit≤ tt)) i;
         rotation2 = quat_same (same_in s 5 4 (lit≤ tt)) i;
         relative_translation = vec3_same (same_in s 9 3 (lit≤ tt)) i;
         relative_rotation = quat_same (same_in s 12 4 (lit≤ tt)) i;
       }))
-      none
+      None
 
   pub flags_same : {a b : ℕ} → Same xs a ys b 9 → flags_at ys b ≡ flags_at xs a
   unfolding flags_at
@@ -108,7 +107,7 @@ module _ {xs ys : List ℕ} where
       }
 
   optional_same : {a b : ℕ} → Same xs a ys b 2 → optional_at ys b ≡ optional_at xs a
-  optional_same s = λ i. cond (eqb (first_same s tt i) 1) (some (word_same s 1 tt i)) none
+  optional_same s = λ i. cond (eqb (first_same s tt i) 1) (Some (word_same s 1 tt i)) None
 
   pub names_same : {a b : ℕ} (id : ℕ) → Same xs a ys b 6 → names_at ys b id ≡ names_at xs a id
   unfolding names_at

@@ -1,6 +1,5 @@
 -- Records that words hold: each float is one of 32 bits, and the lists are within the limits. Definitions only.
-use Rattle.std.specs.Prelude.{◌≡◌, List, ℕ, ◌≤◌, ◌<◌, length, get_or}
-use Rattle.std.proofs.Math.Option.{Option, some}
+use Rattle.std.specs.Prelude.{◌≡◌, List, ℕ, ◌≤◌, ◌<◌, length, get_or, Option, Some}
 use Rattle.std.specs.Int.{w32}
 use Rattle.std.proofs.Common.{SFits}
 use Rattle.math.specs.Fit.{FitFloat, FitVec3, FitQuat}
@@ -42,7 +41,7 @@ pub record FitCache (c : Cache) : Type 0 where
   pub relative_rotation : FitQuat c.relative_rotation
 
 pub record FitCached (o : Option Cache) : Type 0 where
-  pub each : (c : Cache) → o ≡ some c → FitCache c
+  pub each : (c : Cache) → o ≡ Some c → FitCache c
 
 pub record FitPair (p : Pair) : Type 0 where
   pub manifolds : FitManifolds p.manifolds

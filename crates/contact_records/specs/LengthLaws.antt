@@ -1,7 +1,6 @@
 -- How many words a record has: whatever it holds, since lists are cut and filled up. Assumes nothing.
-use Rattle.std.specs.Prelude.{◌≡◌, refl, ℕ, length}
+use Rattle.std.specs.Prelude.{◌≡◌, refl, ℕ, List, ◌∷◌, ◌++◌, length, get_or, Option, None, Some}
 use Rattle.std.proofs.Common.{arith, length-append}
-use Rattle.std.proofs.Math.Option.{Option, none, some}
 use Rattle.rules.specs.Records.{Cache, PairFlags, Names, EdgeFlags, Pair}
 use Rattle.manifold_records.specs.LengthLaws.{length_manifolds}
 use Rattle.manifold_records.specs.ListLaws.{length_zeros}
@@ -10,8 +9,8 @@ use Rattle.contact_records.specs.Written.{optional_words, cache_words, flags_wor
 
 pub length_cache : (c : Option Cache) → length (cache_words c) ≡ cache_size
 unfolding cache_words
-length_cache none = length_zeros 16
-length_cache (some c) = refl
+length_cache None = length_zeros 16
+length_cache (Some c) = refl
 
 pub length_flags : (f : PairFlags) → length (flags_words f) ≡ 9
 unfolding flags_words
@@ -19,8 +18,8 @@ length_flags f = refl
 
 pub length_optional : (n : Option ℕ) → length (optional_words n) ≡ 2
 unfolding optional_words
-length_optional none = refl
-length_optional (some n) = refl
+length_optional None = refl
+length_optional (Some n) = refl
 
 pub length_names : (n : Names) (index : ℕ) → length (names_words n index) ≡ 7
 unfolding names_words
@@ -37,3 +36,9 @@ length_state p = simp length-append (omega (arith, length_flags p.flags, length_
 pub length_contact : (index : ℕ) (p : Pair) → length (contact_words index p) ≡ contact_size
 unfolding contact_words
 length_contact index p = simp length-append (omega (arith, length_names p.names index, length_edge p.edge, length_state p))
+
+-- an optional number's two words, one by one
+pub optional_words_lem : (o : Option ℕ) (ws : List ℕ) → get_or (optional_words o) 0 0 ∷ get_or (optional_words o) 1 0 ∷ ws ≡ optional_words o ++ ws
+unfolding optional_words
+optional_words_lem None ws = refl
+optional_words_lem (Some n) ws = refl

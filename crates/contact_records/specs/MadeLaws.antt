@@ -1,7 +1,6 @@
 -- A pair's state made of words, field by field: what each call gives, put together. Assumes nothing.
-use Rattle.std.specs.Prelude.{◌≡◌, false, cond, eqb, ℕ, ◌+◌, List}
+use Rattle.std.specs.Prelude.{◌≡◌, false, cond, eqb, ℕ, ◌+◌, List, Option, None, Some}
 use Rattle.std.proofs.Common.{sym, ap, ◌∙◌, ne_eqb, add-zero}
-use Rattle.std.proofs.Math.Option.{Option, none, some}
 use Rattle.math.specs.declared.quat.Quat.{Quat}
 use Rattle.math.specs.declared.vec.Vec3.{Vec3}
 use Rattle.rows.specs.Rows.{part}
@@ -23,12 +22,12 @@ cached_at xs at = record { rotation1 = quat_at xs (at + 1); rotation2 = quat_at 
 
 pub cache_loaded : (xs : List ℕ) (at : ℕ) {w : ℕ} {a b d : Quat} {t : Vec3}
     → w ≡ word_at xs at → w ≡ 1 → a ≡ quat_at xs (at + 1) → b ≡ quat_at xs (at + 5) → t ≡ vec3_at xs (at + 9) → d ≡ quat_at xs (at + 12)
-    → ◌≡◌ {A = Option Cache} (some (record { rotation1 = a; rotation2 = b; relative_translation = t; relative_rotation = d })) (cache_at xs at)
+    → ◌≡◌ {A = Option Cache} (Some (record { rotation1 = a; rotation2 = b; relative_translation = t; relative_rotation = d })) (cache_at xs at)
 unfolding cache_at
 cache_loaded xs at e m a b t d =
-    (λ i. some (record { rotation1 = a i; rotation2 = b i; relative_translation = t i; relative_rotation = d i }))
-    ∙ ap (λ (w : ℕ). cond (eqb w 1) (some (cached_at xs at)) none) (sym m ∙ e)
+    (λ i. Some (record { rotation1 = a i; rotation2 = b i; relative_translation = t i; relative_rotation = d i }))
+    ∙ ap (λ (w : ℕ). cond (eqb w 1) (Some (cached_at xs at)) None) (sym m ∙ e)
 
-pub cache_none : (xs : List ℕ) (at : ℕ) {w : ℕ} → w ≡ word_at xs at → (w ≡ 1 → ⊥) → ◌≡◌ {A = Option Cache} none (cache_at xs at)
+pub cache_none : (xs : List ℕ) (at : ℕ) {w : ℕ} → w ≡ word_at xs at → (w ≡ 1 → ⊥) → ◌≡◌ {A = Option Cache} None (cache_at xs at)
 unfolding cache_at
 cache_none xs at {w} e n = let z : eqb (word_at xs at) 1 ≡ false = ne_eqb (word_at xs at) 1 (λ h. n (e ∙ h)) in rw z

@@ -1,7 +1,6 @@
 -- The words of a contact that was just added: twenty of the addition, and zeros. Assumes nothing.
-use Rattle.std.specs.Prelude.{◌≡◌, refl, ℕ, zero, suc, ◌+◌, List, [], ◌∷◌, ◌++◌, length}
+use Rattle.std.specs.Prelude.{◌≡◌, refl, ℕ, zero, suc, ◌+◌, List, [], ◌∷◌, ◌++◌, length, Option, None, Some}
 use Rattle.std.proofs.Common.{sym, ap, ◌∙◌, zero-add, suc-add, arith, lit≤, lit<, length-append}
-use Rattle.std.proofs.Math.Option.{Option, none, some}
 use Rattle.math.specs.Fit.{FitFloat}
 use Rattle.rows.specs.Rows.{put}
 use Rattle.rows.specs.Laws.{put_next}
@@ -36,10 +35,10 @@ new_contact index id a = go a.body1 a.body2
     words b c = new_contact_words index (of b c)
 
     go : (b c : Option ℕ) → contact_words index (new_pair id (of b c)) ≡ words b c ++ zeros 503
-    go none none = ap (λ (r : List ℕ). words none none ++ r) nothing
-    go none (some n) = ap (λ (r : List ℕ). words none (some n) ++ r) nothing
-    go (some m) none = ap (λ (r : List ℕ). words (some m) none ++ r) nothing
-    go (some m) (some n) = ap (λ (r : List ℕ). words (some m) (some n) ++ r) nothing
+    go None None = ap (λ (r : List ℕ). words None None ++ r) nothing
+    go None (Some n) = ap (λ (r : List ℕ). words None (Some n) ++ r) nothing
+    go (Some m) None = ap (λ (r : List ℕ). words (Some m) None ++ r) nothing
+    go (Some m) (Some n) = ap (λ (r : List ℕ). words (Some m) (Some n) ++ r) nothing
 
 pub length_new : (index : ℕ) (a : Addition) → length (new_contact_words index a) ≡ 20
 unfolding new_contact_words

@@ -1,18 +1,14 @@
 -- What words record: a contact's record read as a plain pair of `rules`. Definitions only.
 -- A mark is read as set where it is 1; an optional value's words are read only then.
-use Rattle.std.specs.Prelude.{ℕ, ◌+◌, ◌-◌, ◌^◌, Bool, cond, List, eqb, ltb, ℤ, pos, negsuc}
-use Rattle.std.proofs.Math.Option.{Option, none, some}
+use Rattle.std.specs.Prelude.{ℕ, ◌+◌, ◌-◌, ◌^◌, cond, List, ltb, ℤ, pos, negsuc, Option, None, Some}
 use Rattle.rules.specs.Records.{Cache, PairFlags, Names, EdgeFlags, Pair}
-use Rattle.words.specs.Words.{word_at, float_at, vec3_at, quat_at}
+use Rattle.words.specs.Words.{word_at, float_at, vec3_at, quat_at, mark_at}
 use Rattle.manifold_records.specs.Recorded.{manifolds_at}
 use Rattle.layout.specs.Contact.{cache_relative_rotation, cache_relative_translation, cache_rotation1, cache_rotation2, contact_body1, contact_body2, contact_cache, contact_count_change, contact_edge_flags, contact_flags, contact_manifolds, contact_speculative_distance}
 
-abbrev pub mark_at : List ℕ → ℕ → Bool
-mark_at xs at = eqb (word_at xs at) 1
-
 -- a mark and a number
 abbrev pub optional_at : List ℕ → ℕ → Option ℕ
-optional_at xs at = cond (mark_at xs at) (some (word_at xs (at + 1))) none
+optional_at xs at = cond (mark_at xs at) (Some (word_at xs (at + 1))) None
 
 -- a word as a signed number, in two's complement
 abbrev pub int_of : ℕ → ℤ
@@ -21,8 +17,8 @@ int_of w = cond (ltb w (2 ^ 31)) (pos w) (negsuc (2 ^ 32 - 1 - w))
 unfoldable pub cache_at : List ℕ → ℕ → Option Cache
 cache_at xs at =
     cond (mark_at xs at)
-    (some (record { rotation1 = quat_at xs (at + cache_rotation1); rotation2 = quat_at xs (at + cache_rotation2); relative_translation = vec3_at xs (at + cache_relative_translation); relative_rotation = quat_at xs (at + cache_relative_rotation) }))
-    none
+    (Some (record { rotation1 = quat_at xs (at + cache_rotation1); rotation2 = quat_at xs (at + cache_rotation2); relative_translation = vec3_at xs (at + cache_relative_translation); relative_rotation = quat_at xs (at + cache_relative_rotation) }))
+    None
 
 unfoldable pub flags_at : List ℕ → ℕ → PairFlags
 flags_at xs at =

@@ -1,10 +1,8 @@
 -- What the structs of a pair's state are as plain records of `rules`. Definitions only.
-use Rattle.std.proofs.Math.Option.{Option, none, some}
+use Rattle.std.specs.Prelude.{None, Some, Option}
 use Rattle.rules.specs.Records.{Cache, PairFlags}
 use Rattle.contact_types.specs.declared.contact_manifold.ContactRecyclingCache.{ContactRecyclingCache}
 use Rattle.contact_records.specs.declared.state.ContactPairFlags.{ContactPairFlags}
-use Rattle.contact_records.specs.declared.state.RecyclingCache.{RecyclingCache}
-use Rattle.contact_records.specs.declared.state.RecyclingCache.TheVariants.{Cached, Nothing}
 
 abbrev pub flags_of : ContactPairFlags → PairFlags
 flags_of f = record {
@@ -22,6 +20,6 @@ flags_of f = record {
 abbrev pub cached_of : ContactRecyclingCache → Cache
 cached_of c = record { rotation1 = c.rotation1; rotation2 = c.rotation2; relative_translation = c.relative_translation; relative_rotation = c.relative_rotation }
 
-abbrev pub cache_of : RecyclingCache → Option Cache
-cache_of (Cached c) = some (cached_of c)
-cache_of Nothing = none
+abbrev pub cache_of : Option ContactRecyclingCache → Option Cache
+cache_of (Some c) = Some (cached_of c)
+cache_of None = None

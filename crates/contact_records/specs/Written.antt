@@ -1,6 +1,5 @@
 -- The words of a plain record, 0 in places that record nothing. Definitions only.
-use Rattle.std.specs.Prelude.{ℕ, ◌-◌, ◌^◌, List, [], ◌∷◌, ◌++◌, ℤ, pos, negsuc}
-use Rattle.std.proofs.Math.Option.{Option, none, some}
+use Rattle.std.specs.Prelude.{ℕ, ◌-◌, ◌^◌, List, [], ◌∷◌, ◌++◌, ℤ, pos, negsuc, Option, None, Some}
 use Rattle.rules.specs.Graph.{Addition}
 use Rattle.rules.specs.Records.{Cache, PairFlags, Names, EdgeFlags, Pair}
 use Rattle.words.specs.Words.{mark_word, float_word, vec3_words, quat_words}
@@ -8,8 +7,8 @@ use Rattle.manifold_records.specs.Written.{zeros, manifolds_words}
 use Rattle.layout.specs.Contact.{cache_size}
 
 unfoldable pub optional_words : Option ℕ → List ℕ
-optional_words none = 0 ∷ 0 ∷ []
-optional_words (some n) = 1 ∷ n ∷ []
+optional_words None = 0 ∷ 0 ∷ []
+optional_words (Some n) = 1 ∷ n ∷ []
 
 -- two's complement, of a number that 32 bits hold
 unfoldable pub int_word : ℤ → ℕ
@@ -17,8 +16,8 @@ int_word (pos n) = n
 int_word (negsuc n) = 2 ^ 32 - 1 - n
 
 unfoldable pub cache_words : Option Cache → List ℕ
-cache_words none = zeros cache_size
-cache_words (some c) = 1 ∷ quat_words c.rotation1 ++ quat_words c.rotation2 ++ vec3_words c.relative_translation ++ quat_words c.relative_rotation
+cache_words None = zeros cache_size
+cache_words (Some c) = 1 ∷ quat_words c.rotation1 ++ quat_words c.rotation2 ++ vec3_words c.relative_translation ++ quat_words c.relative_rotation
 
 unfoldable pub flags_words : PairFlags → List ℕ
 flags_words f =

@@ -1,11 +1,10 @@
 // A pair's own words besides its manifolds: nine marks, the count change, and the recycling cache.
-ghost use Rattle.std.specs.Prelude.{◌≡◌, ◌+◌, ◌≤◌, length};
+ghost use Rattle.std.specs.Prelude.{◌≡◌, ◌+◌, ◌≤◌, length, Some};
 ghost use Rattle.rows.specs.Rows.{put};
 ghost use Rattle.layout.specs.Contact.{cache_size, flags_size};
 ghost use Rattle.contact_records.specs.Recorded.{flags_at, cache_at};
 ghost use Rattle.contact_records.specs.StateViews.{flags_of, cached_of, cache_of};
-ghost use Rattle.contact_records.specs.Written.{int_word, flags_words, cache_words};
-ghost use Rattle.std.proofs.Math.Option.{some};
+ghost use Rattle.contact_records.specs.Written.{optional_words, int_word, flags_words, cache_words};
 
 use contact_types::contact_manifold::ContactRecyclingCache;
 use layout::contact::{
@@ -14,8 +13,8 @@ use layout::contact::{
 };
 use manifold_records::zeros::store_zeros;
 use math::bits::bits_of;
-use words::row::{load_word, load_words, mark_word, store_words};
-use words::vec::{load_quat, load_vec3};
+use words::load::load;
+use words::row::{load_words, mark_word, store_words};
 
 // The Rust's flags, a mark for each.
 #[derive(Clone, Copy)]
@@ -81,6 +80,17 @@ pub fn store_flags(g: &mut [u32], at: usize, f: ContactPairFlags)
     store_words(g, at, &w);
 }
 
+// An optional number's mark, and the number, 0 where there is none.
+#[tactic(auto, unfolding(crate::specs::Written::optional_words))]
+pub fn optional_words(o: Option<u32>) -> [u32; 2]
+    ensures { result ≡ optional_words o }
+{
+    match o {
+        Some(n) => [1, n],
+        None => [0, 0],
+    }
+}
+
 // A signed number as a word, in two's complement.
 pub fn word_of_int(i: i32) -> u32
     ensures { result ≡ int_word i }
@@ -92,32 +102,25 @@ pub fn word_of_int(i: i32) -> u32
     }
 }
 
-// The poses of the last full update, where there are any.
-#[derive(Clone, Copy)]
-pub enum RecyclingCache {
-    Cached(ContactRecyclingCache),
-    Nothing,
-}
-
-pub fn load_cache(g: &[u32], at: usize) -> RecyclingCache
+pub fn load_cache(g: &[u32], at: usize) -> Option<ContactRecyclingCache>
     requires { at + cache_size ≤ length g.now }
     ensures { cache_of result ≡ cache_at g.now at }
 {
-    let mark = load_word(g, at);
+    let mark = load::<u32>(g, at);
     if mark == 1 {
-        RecyclingCache::Cached(ContactRecyclingCache {
-            rotation1: load_quat(g, at + CACHE_ROTATION1),
-            rotation2: load_quat(g, at + CACHE_ROTATION2),
-            relative_translation: load_vec3(g, at + CACHE_RELATIVE_TRANSLATION),
-            relative_rotation: load_quat(g, at + CACHE_RELATIVE_ROTATION),
+        Some(ContactRecyclingCache {
+            rotation1: load(g, at + CACHE_ROTATION1),
+            rotation2: load(g, at + CACHE_ROTATION2),
+            relative_translation: load(g, at + CACHE_RELATIVE_TRANSLATION),
+            relative_rotation: load(g, at + CACHE_RELATIVE_ROTATION),
         })
     } else {
-        RecyclingCache::Nothing
+        None
     }
 }
 
 fn cached_words(c: ContactRecyclingCache) -> [u32; CACHE_SIZE]
-    ensures { result ≡ cache_words (some (cached_of c)) }
+    ensures { result ≡ cache_words (Some (cached_of c)) }
 {
     let a = c.rotation1;
     let b = c.rotation2;
@@ -143,15 +146,15 @@ fn cached_words(c: ContactRecyclingCache) -> [u32; CACHE_SIZE]
     ]
 }
 
-pub fn store_cache(g: &mut [u32], at: usize, c: RecyclingCache)
+pub fn store_cache(g: &mut [u32], at: usize, c: Option<ContactRecyclingCache>)
     requires { at + cache_size ≤ length g.old }
     ensures { g.new ≡ put g.old at (cache_words (cache_of c)) }
 {
     match c {
-        RecyclingCache::Cached(poses) => {
+        Some(poses) => {
             let w = cached_words(poses);
             store_words(g, at, &w);
         }
-        RecyclingCache::Nothing => store_zeros(g, at, CACHE_SIZE),
+        None => store_zeros(g, at, CACHE_SIZE),
     }
 }

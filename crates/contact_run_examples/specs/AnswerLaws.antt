@@ -1,7 +1,6 @@
 -- The calls of `Calls`, computed: the table's numbers, the graph's words after each call and the steps' reports. Assumes nothing.
-use Rattle.std.specs.Prelude.{ℕ, ◌-◌, ◌*◌, ◌≡◌, refl, Bool, true, false, List, [], ◌∷◌, pos, length}
+use Rattle.std.specs.Prelude.{ℕ, ◌-◌, ◌*◌, ◌≡◌, refl, Bool, true, false, List, [], ◌∷◌, pos, length, Some}
 use Rattle.std.proofs.Common.{arith}
-use Rattle.std.proofs.Math.Option.{some}
 use Rattle.rules.specs.Limits as limit
 use Rattle.rules.specs.Numbers.{every}
 use Rattle.rules.specs.Records.{Names}
@@ -158,7 +157,7 @@ leaving_accepted = refusal_by leaving met rows 0 (colliders_fit_lem true false) 
 
 -- ---- their passes: the graph's words, the events and the changes
 abbrev names_of : ℕ → ℕ → ℕ → Names
-names_of id a b = record { id = id; collider1 = a; collider2 = b; body1 = some a; body2 = some b }
+names_of id a b = record { id = id; collider1 = a; collider2 = b; body1 = Some a; body2 = Some b }
 
 abbrev passing : List ℕ → List Event → List Change → Passing
 passing g es cs = record { graph = g; events = es; changes = cs }

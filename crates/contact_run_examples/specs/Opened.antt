@@ -1,4 +1,5 @@
 -- What a step computes by, opened group by group for cases with numbers. Definitions only.
+use Rattle.words.specs.Words.{if_marked}
 use Rattle.std.specs.Prelude.{ℕ}
 use Rattle.std.specs.Float.Ieee.{of_bits, to_bits, lt, le, is_nan, add, sub, mul, neg, ne, eq, fits}
 use Rattle.math.specs.Choose.{maximum, minimum}
@@ -16,7 +17,7 @@ use Rattle.rules.specs.Sides.{overlap, interact, side_of}
 use Rattle.rules.specs.Surface.{ruled, combine, friction_of, restitution_of, margin_of, clamped_velocity, swept_distance, effective_speculative_of, surface_of}
 use Rattle.rules.specs.Update.{disjoint, recycled_pair, enabled, hooked, matched, change_of, remaining, renewed_flags, status_bit, renewed, overlapping, updated_between, updated}
 use Rattle.collider.specs.Range.{settings_fit, collider_fits, colliders_fit, body_fits, bodies_fit}
-use Rattle.collider.specs.Recorded.{mark_or, number_if_at, float_if_at, coefficient_if_at, settings_of, present_collider, collider_at, present_body, body_at}
+use Rattle.collider.specs.Recorded.{mark_or, settings_of, present_collider, collider_at, present_body, body_at}
 use Rattle.proposals.specs.Range.{proposal_fits, hook_fits}
 use Rattle.proposals.specs.Recorded.{proposed_point_at, proposed_points_at, proposed_manifold_at, proposal_at, hook_at}
 use Rattle.rows.specs.Rows.{part, put}
@@ -70,7 +71,7 @@ opened_update = 0
 
 -- colliders and bodies
 unfoldable pub opened_colliders : ℕ
-unfolding settings_fit collider_fits colliders_fit body_fits bodies_fit mark_or number_if_at float_if_at coefficient_if_at settings_of present_collider collider_at present_body body_at
+unfolding settings_fit collider_fits colliders_fit body_fits bodies_fit mark_or if_marked settings_of present_collider collider_at present_body body_at
 opened_colliders = 0
 
 -- proposals

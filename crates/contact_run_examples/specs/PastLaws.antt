@@ -1,16 +1,15 @@
 -- Rows of colliders and of bodies that are filled up with zeros: past the first words all are absent, and so in range. Assumes nothing.
-use Rattle.std.specs.Prelude.{ℕ, ◌+◌, ◌-◌, ◌*◌, ◌≤◌, ◌≡◌, refl, Bool, true, false, ◌&&◌, List, ◌++◌, eqb, ltb, length}
+use Rattle.std.specs.Prelude.{ℕ, ◌+◌, ◌-◌, ◌*◌, ◌≤◌, ◌≡◌, refl, Bool, true, false, ◌&&◌, List, ◌++◌, eqb, ltb, length, None, Some}
 use Rattle.std.proofs.Common.{arith, ◌∙◌, ltb-true, ltb-false, get_or-append-add}
 use Rattle.std.proofs.Math.Path.{ap}
 use Rattle.std.proofs.Math.Bool.{cond}
-use Rattle.std.proofs.Math.Option.{none, some}
 use Rattle.rules.specs.Limits.{bodies}
 use Rattle.rules.specs.Numbers.{every}
 use Rattle.rule_laws.specs.NumberLaws.{every_at, every_all}
-use Rattle.words.specs.Words.{word_at}
+use Rattle.words.specs.Words.{word_at, is_mark}
 use Rattle.layout.specs.Body.{body_friction, body_margin, body_speculative_maximum, body_static}
 use Rattle.layout.specs.Collider.{collider_body, collider_friction, collider_margin, collider_restitution, collider_sensor, collider_size}
-use Rattle.collider.specs.Range.{is_mark, coefficient_fits, where_set, collider_fits, body_fits}
+use Rattle.collider.specs.Range.{coefficient_fits, where_set, collider_fits, body_fits}
 use Rattle.collider.specs.Recorded.{collider_at, present_collider}
 use Rattle.manifold_records.specs.Written.{zeros}
 use Rattle.contact_graph.specs.LaidOutLaws.{zeros_at}
@@ -30,10 +29,10 @@ module _ (ws : List ℕ) (m : ℕ) where
       let e : at ≡ length ws + k = omega arith in
       ap (word_at (ws ++ zeros m)) e ∙ get_or-append-add ws (zeros m) k 0 ∙ zeros_at m k
 
-  pub collider_past : (n : ℕ) → length ws ≤ n * collider_size → collider_at (ws ++ zeros m) n ≡ none
+  pub collider_past : (n : ℕ) → length ws ≤ n * collider_size → collider_at (ws ++ zeros m) n ≡ None
   unfolding collider_at
   collider_past n l =
-      ap (λ (w : ℕ). cond (eqb w 1) (some (present_collider (ws ++ zeros m) (n * collider_size))) none) (word_past (n * collider_size) l)
+      ap (λ (w : ℕ). cond (eqb w 1) (Some (present_collider (ws ++ zeros m) (n * collider_size))) None) (word_past (n * collider_size) l)
 
   pub collider_fits_past : (at : ℕ) → length ws ≤ at → collider_fits (ws ++ zeros m) at ≡ true
   unfolding collider_fits

@@ -1,8 +1,7 @@
 -- The list of `Calls` has a run, and the claim speaks of it: what its calls answer and leave is computed, they do and tell what the plain run has,
 -- and its changes, replayed, hold what the plain run holds. Assumes nothing.
-use Rattle.std.specs.Prelude.{ℕ, zero, suc, ◌-◌, ◌*◌, ◌≡◌, refl, Bool, true, false, cond, List, [], map, eqb, pos}
+use Rattle.std.specs.Prelude.{ℕ, zero, suc, ◌-◌, ◌*◌, ◌≡◌, refl, Bool, true, false, cond, List, [], map, eqb, pos, Ok, None, Some}
 use Rattle.std.proofs.Common.{arith, sym, ap, subst, ◌∙◌}
-use Rattle.std.proofs.Math.Option.{none, some}
 use Rattle.rules.specs.Graph.{Graph, empty_graph}
 use Rattle.rules.specs.Runs.{Provisos, plain_run, plain_graph, held_in}
 use Rattle.layout.specs.Collider.{collider_size, colliders_length}
@@ -13,7 +12,6 @@ use Rattle.math.specs.Fit.{FitFloat}
 use Rattle.contact_range.specs.Recorded.{graph_of}
 use Rattle.contact_graph.specs.Calls.{laid_out}
 use Rattle.contact_graph.specs.Promises.{LaidOut}
-use Rattle.contact_graph.specs.declared.lay_out.LayOutAnswer.TheVariants.{Done}
 use Rattle.contact_update.specs.After.{inputs_of}
 use Rattle.step.specs.Step as step
 use Rattle.step.specs.Step.{Rows}
@@ -156,48 +154,48 @@ pub calls_provisos : Provisos (map plain_of calls) (empty_graph 2)
 calls_provisos = provisos_hold calls 2 (calls_keep (later_then last) (later_keep last last_keep))
 
 -- ---- so the claim speaks of them
-pub laid : LaidOut (zeros (graph_length 2)) 2 (laid_out 2) Done
+pub laid : LaidOut (zeros (graph_length 2)) 2 (laid_out 2) (Ok tt)
 unfolding opened
 laid = record { answer = refl; graph = refl }
 
 pub calls_plain : AsPlain calls calls_run.0 (plain_run (map plain_of calls) (empty_graph 2))
-calls_plain = demand3.plain (zeros (graph_length 2)) 2 (laid_out 2) Done calls calls_run.0 laid refl calls_ordered
+calls_plain = demand3.plain (zeros (graph_length 2)) 2 (laid_out 2) (Ok tt) calls calls_run.0 laid refl calls_ordered
 
 abbrev Replays : (es : List Entry) → Outcomes es → Type 0
-Replays es os = (id : ℕ) → replay_told os (λ _. none) id ≡ held_in (plain_graph (map plain_of es) (empty_graph 2)).pairs id
+Replays es os = (id : ℕ) → replay_told os (λ _. None) id ≡ held_in (plain_graph (map plain_of es) (empty_graph 2)).pairs id
 
 run_replays : (es : List Entry) (os : Outcomes es) → Run Promised (laid_out 2) es os → Provisos (map plain_of es) (empty_graph 2) → Replays es os
-run_replays es os r p = demand3.replay (zeros (graph_length 2)) 2 (laid_out 2) Done es os laid refl (demand3.ordered (laid_out 2) es os r) p
+run_replays es os r p = demand3.replay (zeros (graph_length 2)) 2 (laid_out 2) (Ok tt) es os laid refl (demand3.ordered (laid_out 2) es os r) p
 
 pub calls_replay : Replays calls calls_run.0
 calls_replay = run_replays calls calls_run.0 calls_run.1 calls_provisos
 
 -- ---- what the replay holds: contact 0 with two manifolds, once it has been counted anew; both contacts, once they have met; and contact 1 alone
 run_held : (es : List Entry) (os : Outcomes es) (ss : List Seen) → Run Promised (laid_out 2) es os → seen os ≡ ss → Provisos (map plain_of es) (empty_graph 2) → (id : ℕ)
-    → replay_told os (λ _. none) id ≡ held_in (graph_of (last_graph (laid_out 2) ss)).pairs id
+    → replay_told os (λ _. None) id ≡ held_in (graph_of (last_graph (laid_out 2) ss)).pairs id
 run_held es os ss r e p id =
     let before = zeros (graph_length 2) in
-    run_replays es os r p id ∙ ap (λ (g : Graph). held_in (plain_graph (map plain_of es) g).pairs id) (sym (laid_plain before 2 (laid_out 2) Done laid refl))
-    ∙ ap (λ (g : Graph). held_in g.pairs id) (last_plain (laid_out 2) (laid_checked before 2 (laid_out 2) Done laid refl) es os r)
+    run_replays es os r p id ∙ ap (λ (g : Graph). held_in (plain_graph (map plain_of es) g).pairs id) (sym (laid_plain before 2 (laid_out 2) (Ok tt) laid refl))
+    ∙ ap (λ (g : Graph). held_in g.pairs id) (last_plain (laid_out 2) (laid_checked before 2 (laid_out 2) (Ok tt) laid refl) es os r)
     ∙ ap (λ (s : List Seen). held_in (graph_of (last_graph (laid_out 2) s)).pairs id) e
 
-doubled_held : (id : ℕ) → held_in (graph_of (last_graph (laid_out 2) (calls_seen []))).pairs id ≡ cond (eqb 0 id) (some (pos 2)) none
+doubled_held : (id : ℕ) → held_in (graph_of (last_graph (laid_out 2) (calls_seen []))).pairs id ≡ cond (eqb 0 id) (Some (pos 2)) None
 unfolding opened graph_of held_in last_graph calls_seen
 doubled_held id = refl
 
-met_held : (id : ℕ) → held_in (graph_of (last_graph (laid_out 2) (calls_seen (later_seen [])))).pairs id ≡ cond (eqb 0 id) (some (pos 2)) (cond (eqb 1 id) (some (pos 1)) none)
+met_held : (id : ℕ) → held_in (graph_of (last_graph (laid_out 2) (calls_seen (later_seen [])))).pairs id ≡ cond (eqb 0 id) (Some (pos 2)) (cond (eqb 1 id) (Some (pos 1)) None)
 unfolding opened graph_of held_in last_graph calls_seen later_seen
 met_held id = refl
 
-left_held : (id : ℕ) → held_in (graph_of (last_graph (laid_out 2) (calls_seen (later_seen last_seen)))).pairs id ≡ cond (eqb 1 id) (some (pos 1)) none
+left_held : (id : ℕ) → held_in (graph_of (last_graph (laid_out 2) (calls_seen (later_seen last_seen)))).pairs id ≡ cond (eqb 1 id) (Some (pos 1)) None
 unfolding opened graph_of held_in last_graph calls_seen later_seen last_seen
 left_held id = refl
 
-pub earlier_held : (id : ℕ) → replay_told earlier_run.0 (λ _. none) id ≡ cond (eqb 0 id) (some (pos 2)) none
+pub earlier_held : (id : ℕ) → replay_told earlier_run.0 (λ _. None) id ≡ cond (eqb 0 id) (Some (pos 2)) None
 earlier_held id = run_held earlier earlier_run.0 (calls_seen []) earlier_run.1 earlier_seen earlier_provisos id ∙ doubled_held id
 
-pub middle_held : (id : ℕ) → replay_told middle_run.0 (λ _. none) id ≡ cond (eqb 0 id) (some (pos 2)) (cond (eqb 1 id) (some (pos 1)) none)
+pub middle_held : (id : ℕ) → replay_told middle_run.0 (λ _. None) id ≡ cond (eqb 0 id) (Some (pos 2)) (cond (eqb 1 id) (Some (pos 1)) None)
 middle_held id = run_held middle middle_run.0 (calls_seen (later_seen [])) middle_run.1 middle_seen middle_provisos id ∙ met_held id
 
-pub calls_held : (id : ℕ) → replay_told calls_run.0 (λ _. none) id ≡ cond (eqb 1 id) (some (pos 1)) none
+pub calls_held : (id : ℕ) → replay_told calls_run.0 (λ _. None) id ≡ cond (eqb 1 id) (Some (pos 1)) None
 calls_held id = run_held calls calls_run.0 (calls_seen (later_seen last_seen)) calls_run.1 calls_seen_lem calls_provisos id ∙ left_held id

@@ -1,5 +1,5 @@
 -- Two lists of calls on the same words, alike in all but allowed shares and what the bit words held, leave the same words after every call, and tell the same. Assumes nothing.
-use Rattle.std.specs.Prelude.{ℕ, zero, suc, ◌*◌, ◌≡◌, refl, ◌⊎◌, Bool, not, ◌&&◌, List, length}
+use Rattle.std.specs.Prelude.{ℕ, zero, suc, ◌*◌, ◌≡◌, refl, ◌⊎◌, Bool, not, ◌&&◌, List, length, Result}
 use Rattle.std.proofs.Common.{sym, ap, subst, ◌∙◌, inl, inr, eq-eqb}
 use Rattle.std.proofs.Math.Bool.{cond}
 use Rattle.std.proofs.Math.Dec.{eqb, eqb-suc-zero}
@@ -20,14 +20,15 @@ use Rattle.status_pass.specs.EventsAndChanges.{event_words, change_words}
 use Rattle.step.proofs.ShareLaws.{shares_free, distances_free, recycled_free}
 use Rattle.step.specs.Step as step
 use Rattle.step.specs.Step.{Given, Rows, Stepped, long, given_long, rows_long, lengths_fit, hooks_fit, rows_in_range, proposals_fit, step_refusal, made_of, pass_of, rows_of, answer_of}
-use Rattle.step.specs.declared.answer.StepAnswer.{StepAnswer}
 use Rattle.update_pass.specs.Shared.{active_of, bits_length, recycled_of, distances_of}
 use Rattle.contact_runs.specs.Runs as runs
 use Rattle.contact_runs.specs.Claim.{Allowed, AlikeSteps, Alike, alike_same, alike_steps, AllAlike, alike_end, alike_then, SameSteps, SameTold, same_told, same_steps, AllSame, same_end, same_then}
-use Rattle.contact_runs.specs.Runs.{Entry, stepping, Told, stepped, Outcomes, end, ◌then◌, Promised, Run}
+use Rattle.contact_runs.specs.Runs.{Entry, stepping, Told, Outcomes, end, ◌then◌, Promised, Run}
 use Rattle.contact_runs.specs.OnlyLaws.{call_only}
 use Rattle.step.proofs.ReadLaws.{refused_events, refused_changes, events_read, changes_read}
 use Rattle.step.specs.DeterminedLaws.{step_determined}
+use Rattle.step.specs.declared.answer.StepReport.{StepReport}
+use Rattle.contact_types.specs.declared.refusal.Refusal.{Refusal}
 
 -- ---- two steps
 -- shares that are the same or both allowed pass the same tests
@@ -92,7 +93,7 @@ module _ (g : List ℕ) (x : Given) (l : Rows) (y : Given) (m : Rows) (a : Alike
   unfolding rows_of
   row_distances = distances_same
 
-  module _ {h k : List ℕ} {l' m' : Rows} {r q : StepAnswer} (s : Stepped x g l h l' r) (t : Stepped y g m k m' q) where
+  module _ {h k : List ℕ} {l' m' : Rows} {r q : Result StepReport Refusal} (s : Stepped x g l h l' r) (t : Stepped y g m k m' q) where
     pub graph_same : k ≡ h
     graph_same = t.graph ∙ (λ i. cond (eqb (refusal_same i) 0) (pass_same i).graph g) ∙ sym s.graph
 

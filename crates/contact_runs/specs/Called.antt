@@ -1,17 +1,18 @@
 -- A list of calls as a planner makes it through the C functions, and how it is a list of the public calls: a call whose request or answer row has a wrong length
 -- answers 1, changes nothing and drops out, and every other one says what the public call tells. Definitions only.
-use Rattle.std.specs.Prelude.{ℕ, ◌≡◌, Bool, true, false, ◌&&◌, List, [], ◌∷◌}
+use Rattle.std.specs.Prelude.{ℕ, ◌≡◌, Bool, true, false, ◌&&◌, List, [], ◌∷◌, Result}
 use Rattle.contact_api.specs.Calls.{id_number, id_row, report_number, report_row, AddCalled, StepCalled}
 use Rattle.contact_api.specs.Layout.{add_answer_length, step_answer_length}
 use Rattle.layout.specs.Request.{request_length}
 use Rattle.contact_graph.specs.Calls.{request_of}
 use Rattle.contact_graph.specs.Promises.{add_answer}
-use Rattle.contact_graph.specs.declared.add.AddAnswer.{AddAnswer}
 use Rattle.step.specs.Step.{Given, Rows, long, plain_answer}
-use Rattle.step.specs.declared.answer.StepAnswer.{StepAnswer}
 use Rattle.contact_runs.specs.Runs as runs
 use Rattle.contact_runs.specs.Runs.{Told, Outcome, Outcomes, end, ◌then◌}
 use Rattle.contact_runs.specs.Solver.{Write, write_words}
+use Rattle.step.specs.declared.answer.StepReport.{StepReport}
+use Rattle.contact_types.specs.declared.refusal.Refusal.{Refusal}
+use Rattle.contact_types.specs.declared.contact_id.ContactId.{ContactId}
 
 -- ---- a list of calls
 -- what a function is given beside the graph, the row for its answer last; or what a solver writes
@@ -59,9 +60,9 @@ pub data OwnRefusal : (c : CEntry) → CTold c → Type 0 where
 
 -- where they have: the number and the row for the answer are what the public call's answer says; a step's rows are the same
 pub data Says : (c : CEntry) → CTold c → (e : runs.Entry) → Told e → Type 0 where
-  says_added : {request lent lent' : List ℕ} {n : ℕ} {r : AddAnswer} → n ≡ id_number (add_answer r) → lent' ≡ id_row lent (add_answer r)
+  says_added : {request lent lent' : List ℕ} {n : ℕ} {r : Result ContactId Refusal} → n ≡ id_number (add_answer r) → lent' ≡ id_row lent (add_answer r)
       → Says (c_addition request lent) (c_added n lent') (runs.addition (request_of request)) (runs.added r)
-  says_stepped : {x : Given} {l l' : Rows} {lent lent' : List ℕ} {n : ℕ} {r : StepAnswer} → n ≡ report_number (plain_answer r) → lent' ≡ report_row lent (plain_answer r)
+  says_stepped : {x : Given} {l l' : Rows} {lent lent' : List ℕ} {n : ℕ} {r : Result StepReport Refusal} → n ≡ report_number (plain_answer r) → lent' ≡ report_row lent (plain_answer r)
       → Says (c_stepping x l lent) (c_stepped n lent' l') (runs.stepping x l) (runs.stepped r l')
   says_nothing : {ws : List Write} → Says (c_impulses ws) c_silent (runs.impulses ws) runs.silent
 

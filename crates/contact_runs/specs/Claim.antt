@@ -20,8 +20,7 @@
 --
 -- What it rests on, in the order in which to read it: the plain run (rules: the map in Lib.antt, down to Runs.antt); what words record (contact_range: `graph_of`,
 -- step: `inputs`); the promises of the calls (contact_graph: Promises.antt, step: Step.antt, which rests on update_pass: Shared.antt and status_pass: Pass.antt); and here Refusals.antt, Solver.antt, Ordered.antt, Runs.antt, Read.antt, Called.antt.
-use Rattle.std.specs.Prelude.{ℕ, ◌≡◌, ◌⊎◌, ◌≢◌, true, List, [], ◌∷◌, map, length}
-use Rattle.std.proofs.Math.Option.{none}
+use Rattle.std.specs.Prelude.{ℕ, ◌≡◌, ◌⊎◌, ◌≢◌, true, List, [], ◌∷◌, map, length, Result, ⊤, None}
 use Rattle.rows.specs.Rows.{put, each}
 use Rattle.rows.specs.Slots.{upto, Distinct, SameMembers}
 use Rattle.rules.specs.Graph.{empty_graph}
@@ -33,17 +32,14 @@ use Rattle.contact_graph.specs.Calls.{addition_of}
 use Rattle.contact_range.specs.Checked.{Checked}
 use Rattle.contact_graph.specs.Impulses.{ImpulsesWritten}
 use Rattle.contact_graph.specs.Promises as graph
-use Rattle.contact_graph.specs.Promises.{LaidOut, lay_out_answer, add_answer}
+use Rattle.contact_graph.specs.Promises.{LaidOut, done_answer, add_answer}
 use Rattle.contact_range.specs.Recorded.{capacity_of, graph_of}
-use Rattle.contact_graph.specs.declared.add.AddAnswer.{AddAnswer}
 use Rattle.contact_graph.specs.declared.call.Request.{Request}
-use Rattle.contact_graph.specs.declared.lay_out.LayOutAnswer.{LayOutAnswer}
 use Rattle.layout.specs.Shares.{shares_length}
 use Rattle.shares.specs.Shares.{shares_fit}
 use Rattle.status_pass.specs.EventsAndChanges.{event_words, change_words}
 use Rattle.step.specs.Step as step
 use Rattle.step.specs.Step.{Given, Rows, step_refusal, plain_answer}
-use Rattle.step.specs.declared.answer.StepAnswer.{StepAnswer}
 use Rattle.update_pass.specs.Shared.{active_of}
 use Rattle.contact_runs.specs.Called.{CEntry, COutcomes, CRun, AsRun}
 use Rattle.contact_runs.specs.Ordered.{InOrder}
@@ -51,6 +47,9 @@ use Rattle.step.specs.Read.{events_of, changes_of}
 use Rattle.contact_runs.specs.Refusals.{plain_add_refusal, plain_step_refusal}
 use Rattle.contact_runs.specs.Runs.{Entry, addition, stepping, impulses, Told, added, stepped, silent, Outcome, Outcomes, end, ◌then◌, Promised, Ordered, Run, AllFit}
 use Rattle.contact_runs.specs.Solver.{Write, write_words, plain_of_write}
+use Rattle.step.specs.declared.answer.StepReport.{StepReport}
+use Rattle.contact_types.specs.declared.refusal.Refusal.{Refusal}
+use Rattle.contact_types.specs.declared.contact_id.ContactId.{ContactId}
 
 -- ---- the same list for the plain run
 abbrev pub plain_of : Entry → rules.Entry
@@ -59,7 +58,7 @@ plain_of (stepping x l) = rules.stepping (plain_step_refusal x l) (step.inputs x
 plain_of (impulses ws) = rules.impulses (map plain_of_write ws)
 
 -- an accepted step: its report; the events and changes in their order, read back from their rows, the rest of which is as it was; a distance for each id
-pub record ReportIs (l l' : Rows) (r : StepAnswer) (s : status.StepResult) : Type 0 where
+pub record ReportIs (l l' : Rows) (r : Result StepReport Refusal) (s : status.StepResult) : Type 0 where
   pub answer : plain_answer r ≡ step.stepped (length s.events) (length s.changes) s.recycled
   pub events : events_of r l'.events ≡ s.events
   pub changes : changes_of r l'.changes ≡ s.changes
@@ -69,10 +68,10 @@ pub record ReportIs (l l' : Rows) (r : StepAnswer) (s : status.StepResult) : Typ
 
 -- what a call tells is the plain run's answer; a refusal leaves its rows as they were
 pub data AnswerIs : (e : Entry) → Told e → rules.Answer → Type 0 where
-  addition_refused : {a : Request} {r : AddAnswer} {n : ℕ} → add_answer r ≡ graph.refused_id n → AnswerIs (addition a) (added r) (rules.refused n)
-  addition_made : {a : Request} {r : AddAnswer} {id : ℕ} → add_answer r ≡ graph.added id → AnswerIs (addition a) (added r) (rules.added id)
-  step_refused : {x : Given} {l l' : Rows} {r : StepAnswer} {n : ℕ} → plain_answer r ≡ step.refused n → l' ≡ l → AnswerIs (stepping x l) (stepped r l') (rules.refused n)
-  step_made : {x : Given} {l l' : Rows} {r : StepAnswer} {s : status.StepResult} → ReportIs l l' r s → AnswerIs (stepping x l) (stepped r l') (rules.stepped s)
+  addition_refused : {a : Request} {r : Result ContactId Refusal} {n : ℕ} → add_answer r ≡ graph.refused_id n → AnswerIs (addition a) (added r) (rules.refused n)
+  addition_made : {a : Request} {r : Result ContactId Refusal} {id : ℕ} → add_answer r ≡ graph.added id → AnswerIs (addition a) (added r) (rules.added id)
+  step_refused : {x : Given} {l l' : Rows} {r : Result StepReport Refusal} {n : ℕ} → plain_answer r ≡ step.refused n → l' ≡ l → AnswerIs (stepping x l) (stepped r l') (rules.refused n)
+  step_made : {x : Given} {l l' : Rows} {r : Result StepReport Refusal} {s : status.StepResult} → ReportIs l l' r s → AnswerIs (stepping x l) (stepped r l') (rules.stepped s)
   nothing : {ws : List Write} → AnswerIs (impulses ws) silent rules.silent
 
 -- after each entry: the answer, what the graph's words record, and that they are of the right length and in range (so that list and contacts name each other)
@@ -109,7 +108,7 @@ pub data AllAlike : List ℕ → (es : List Entry) → Outcomes es → List Entr
       → Alike g e f → AllAlike o.graph es os fs → AllAlike g (e ∷ es) (o then os) (f ∷ fs)
 
 -- the same answer; the same events and changes read back, and the same distances where the step is accepted; and a row that was lent the same comes back the same, the bit words apart
-pub record SameSteps (l l' m m' : Rows) (r q : StepAnswer) : Type 0 where
+pub record SameSteps (l l' m m' : Rows) (r q : Result StepReport Refusal) : Type 0 where
   pub answer : q ≡ r
   pub events : events_of q m'.events ≡ events_of r l'.events
   pub changes : changes_of q m'.changes ≡ changes_of r l'.changes
@@ -120,7 +119,7 @@ pub record SameSteps (l l' m m' : Rows) (r q : StepAnswer) : Type 0 where
 
 pub data SameTold : (e f : Entry) → Told e → Told f → Type 0 where
   same_told : {e : Entry} {t : Told e} → SameTold e e t t
-  same_steps : {x y : Given} {l l' m m' : Rows} {r q : StepAnswer} → SameSteps l l' m m' r q → SameTold (stepping x l) (stepping y m) (stepped r l') (stepped q m')
+  same_steps : {x y : Given} {l l' m m' : Rows} {r q : Result StepReport Refusal} → SameSteps l l' m m' r q → SameTold (stepping x l) (stepping y m) (stepped r l') (stepped q m')
 
 -- after every call the same words of the graph, and the same told
 pub data AllSame : (es fs : List Entry) → Outcomes es → Outcomes fs → Type 0 where
@@ -150,17 +149,17 @@ pub record Demand3 : Type 0 where
   -- the code's runs are among those in which each accepted step has an order of its own; every order has its outcome; and these runs keep the promises: no order shows in any outcome
   pub ordered : (g : List ℕ) (es : List Entry) (os : Outcomes es) → Run Promised g es os → Run Ordered g es os
   pub in_any_order : (x : Given) (g : List ℕ) (l : Rows) (ids : List ℕ) → step_refusal x g l ≡ 0 → Distinct ids → SameMembers ids (active_of g)
-      → (h : List ℕ) × (l' : Rows) × (r : StepAnswer) × InOrder x g l ids h l' r
+      → (h : List ℕ) × (l' : Rows) × (r : Result StepReport Refusal) × InOrder x g l ids h l' r
   pub unordered : (g : List ℕ) (es : List Entry) (os : Outcomes es) → Run Ordered g es os → Run Promised g es os
   -- from a newly laid out graph, after every call the answer and the graph are the plain run's
-  pub plain : (before : List ℕ) (capacity : ℕ) (g : List ℕ) (r : LayOutAnswer) (es : List Entry) (os : Outcomes es)
-      → LaidOut before capacity g r → lay_out_answer r ≡ graph.done → Run Ordered g es os → AsPlain es os (plain_run (map plain_of es) (empty_graph capacity))
+  pub plain : (before : List ℕ) (capacity : ℕ) (g : List ℕ) (r : Result ⊤ Refusal) (es : List Entry) (os : Outcomes es)
+      → LaidOut before capacity g r → done_answer r ≡ graph.done → Run Ordered g es os → AsPlain es os (plain_run (map plain_of es) (empty_graph capacity))
   -- begun on the same words, alike in all but allowed shares and what the bit words held: the same words after every call, and the same told
   pub bytes : (g : List ℕ) (es fs : List Entry) (os : Outcomes es) (ps : Outcomes fs) → Run Ordered g es os → Run Ordered g fs ps → AllAlike g es os fs → AllSame es fs os ps
   -- under the two provisos, the changes that the calls of the whole list have written, replayed from nothing held, hold the contacts that touch and generate, each with its manifold count
-  pub replay : (before : List ℕ) (capacity : ℕ) (g : List ℕ) (r : LayOutAnswer) (es : List Entry) (os : Outcomes es)
-      → LaidOut before capacity g r → lay_out_answer r ≡ graph.done → Run Ordered g es os → Provisos (map plain_of es) (empty_graph capacity)
-      → (id : ℕ) → replay_told os (λ _. none) id ≡ held_in (plain_graph (map plain_of es) (empty_graph capacity)).pairs id
+  pub replay : (before : List ℕ) (capacity : ℕ) (g : List ℕ) (r : Result ⊤ Refusal) (es : List Entry) (os : Outcomes es)
+      → LaidOut before capacity g r → done_answer r ≡ graph.done → Run Ordered g es os → Provisos (map plain_of es) (empty_graph capacity)
+      → (id : ℕ) → replay_told os (λ _. None) id ≡ held_in (plain_graph (map plain_of es) (empty_graph capacity)).pairs id
   -- every list of calls of the C functions has a run, and it is a run of the public calls; a call whose own rows have wrong lengths changes nothing and drops out
   pub c_runs : (g : List ℕ) (cs : List CEntry) → (rs : COutcomes cs) × CRun g cs rs
   pub called : (g : List ℕ) (cs : List CEntry) (rs : COutcomes cs) → CRun g cs rs

@@ -1,7 +1,6 @@
 -- The claim about whole lists of additions and steps holds. Assumes nothing.
-use Rattle.std.specs.Prelude.{ℕ, zero, suc, ◌≤◌, ◌<◌, ◌≡◌, refl, Bool, true, false, cond, ◌&&◌, List, map, eqb, ltb, leb, length}
+use Rattle.std.specs.Prelude.{ℕ, zero, suc, ◌≤◌, ◌<◌, ◌≡◌, refl, Bool, true, false, cond, ◌&&◌, List, map, eqb, ltb, leb, length, Result, ⊤, None}
 use Rattle.std.proofs.Common.{arith, sym, ap, subst, ◌∙◌, ltb-true, leb-true}
-use Rattle.std.proofs.Math.Option.{none}
 use Rattle.std.proofs.Math.Dec.{eqb-suc-zero}
 use Rattle.rules.specs.Graph.{Graph, empty_graph}
 use Rattle.rules.specs.Limits.{most_contacts}
@@ -12,10 +11,9 @@ use Rattle.contact_range.specs.Checked.{Checked}
 use Rattle.contact_graph.specs.LaidOutLaws.{laid_right, laid_in_range, laid_empty}
 use Rattle.layout.specs.Graph.{graph_length}
 use Rattle.contact_graph.specs.Promises as graph
-use Rattle.contact_graph.specs.Promises.{LaidOut, lay_out_answer}
+use Rattle.contact_graph.specs.Promises.{LaidOut, done_answer}
 use Rattle.contact_range.specs.RangeLaws.{first_of_lem, rest_of, right_length_lem}
 use Rattle.contact_range.specs.Recorded.{graph_of}
-use Rattle.contact_graph.specs.declared.lay_out.LayOutAnswer.{LayOutAnswer}
 use Rattle.contact_runs.specs.AlikeRunLaws.{run_alike}
 use Rattle.contact_runs.specs.CalledRunLaws.{c_run_of, run_called}
 use Rattle.contact_runs.specs.Claim.{plain_of, AsPlain, Demand3}
@@ -24,6 +22,7 @@ use Rattle.contact_runs.specs.OrderedRunLaws.{any_in_order, run_ordered, run_pro
 use Rattle.contact_runs.specs.ReplayLaws.{replay_plain, run_replays}
 use Rattle.contact_runs.specs.RunLaws.{run_plain}
 use Rattle.contact_runs.specs.WriteLaws.{writes_impulses, impulses_writes}
+use Rattle.contact_types.specs.declared.refusal.Refusal.{Refusal}
 
 -- ---- a newly laid out graph
 -- an answer that it was done
@@ -46,7 +45,7 @@ laid_bounds before capacity e =
     go true e = refl
     go false e = absurd (omega arith)
 
-module _ (before : List ℕ) (capacity : ℕ) (g : List ℕ) (r : LayOutAnswer) (l : LaidOut before capacity g r) (d : lay_out_answer r ≡ graph.done) where
+module _ (before : List ℕ) (capacity : ℕ) (g : List ℕ) (r : Result ⊤ Refusal) (l : LaidOut before capacity g r) (d : done_answer r ≡ graph.done) where
   number : lay_out_refusal before capacity ≡ 0
   number = laid_number (lay_out_refusal before capacity) (sym l.answer ∙ d)
 
@@ -78,8 +77,8 @@ demand3 =
       bytes = λ g es fs os ps r s a. run_alike g es fs os ps (run_promised g es os r) (run_promised g fs ps s) a;
       replay =
           λ before capacity g r es os l d k p id. ap (λ (h : Held). h id)
-          (run_replays g (laid_checked before capacity g r l d) es os (run_promised g es os k) (λ _. none)
-          ∙ ap (λ (q : Graph). replay_answers (plain_run (map plain_of es) q) (λ _. none)) (laid_plain before capacity g r l d))
+          (run_replays g (laid_checked before capacity g r l d) es os (run_promised g es os k) (λ _. None)
+          ∙ ap (λ (q : Graph). replay_answers (plain_run (map plain_of es) q) (λ _. None)) (laid_plain before capacity g r l d))
           ∙ replay_plain es capacity p id;
       c_runs = c_run_of;
       called = run_called;

@@ -1,6 +1,6 @@
 -- A step whose active contacts are updated in an order of its own, whichever worker has them: each update on the graph that the ones before have left,
 -- its status bit set in its worker's part of the bit words; then the status pass over the parts joined. Definitions only.
-use Rattle.std.specs.Prelude.{ℕ, zero, suc, ◌+◌, ◌≡◌, cond, ◌&&◌, List, [], ◌∷◌, ◌++◌, length}
+use Rattle.std.specs.Prelude.{ℕ, zero, suc, ◌+◌, ◌≡◌, cond, ◌&&◌, List, [], ◌∷◌, ◌++◌, length, Result}
 use Rattle.rows.specs.Rows.{put, each}
 use Rattle.rows.specs.Slots.{Distinct, SameMembers}
 use Rattle.rules.specs.Update.{is_recycled}
@@ -15,9 +15,10 @@ use Rattle.status_pass.specs.Pass.{Passing, begun, pass_words}
 use Rattle.status_pass.specs.EventsAndChanges.{event_words, change_words}
 use Rattle.step.specs.Step as step
 use Rattle.step.specs.Step.{Given, Rows, step_refusal, made_of, plain_answer}
-use Rattle.step.specs.declared.answer.StepAnswer.{StepAnswer}
 use Rattle.update_pass.specs.ListsLaws.{listed_in}
 use Rattle.update_pass.specs.Shared.{active_of, share_of}
+use Rattle.step.specs.declared.answer.StepReport.{StepReport}
+use Rattle.contact_types.specs.declared.refusal.Refusal.{Refusal}
 
 -- what the updates made so far have left: the graph, each worker's part of the bit words, the distances, and how many contacts were recycled
 pub record Stage : Type 0 where
@@ -72,7 +73,7 @@ module _ (g : List ℕ) (s : Stage) where
   answer_after = step.stepped (length pass_after.events) (length pass_after.changes) s.recycled
 
 -- an accepted step that updates the active contacts in that order, each once
-pub record InOrder (x : Given) (g : List ℕ) (l : Rows) (ids : List ℕ) (g' : List ℕ) (l' : Rows) (r : StepAnswer) : Type 0 where
+pub record InOrder (x : Given) (g : List ℕ) (l : Rows) (ids : List ℕ) (g' : List ℕ) (l' : Rows) (r : Result StepReport Refusal) : Type 0 where
   pub accepted : step_refusal x g l ≡ 0
   pub once : Distinct ids
   pub active : SameMembers ids (active_of g)

@@ -1,13 +1,11 @@
 -- The code's runs are runs in which each accepted step has an order of its own, and whatever the orders, such a run keeps the promises. Assumes nothing.
-use Rattle.std.specs.Prelude.{ℕ, zero, suc, ◌≡◌, refl, ◌≢◌, Bool, cond, List, [], ◌∷◌, eqb, length}
+use Rattle.std.specs.Prelude.{ℕ, zero, suc, ◌≡◌, refl, ◌≢◌, Bool, cond, List, [], ◌∷◌, eqb, length, Ok, Result}
 use Rattle.std.proofs.Common.{arith, sym, ap, subst, ◌∙◌, ne_eqb}
 use Rattle.std.proofs.Math.Dec.{eqb-suc-zero}
 use Rattle.rows.specs.Slots.{Distinct, SameMembers}
 use Rattle.step.specs.AcceptedLaws.{accepted}
 use Rattle.step.specs.Step as step
 use Rattle.step.specs.Step.{Given, Rows, Stepped, step_refusal, pass_of, rows_of, answer_of, plain_answer}
-use Rattle.step.specs.declared.answer.StepAnswer.{StepAnswer}
-use Rattle.step.specs.declared.answer.StepAnswer.TheVariants as answer
 use Rattle.status_pass.specs.Pass.{Passing}
 use Rattle.update_pass.specs.BitsLaws.{entries_active}
 use Rattle.update_pass.specs.Shared.{active_of, entries_of}
@@ -15,6 +13,8 @@ use Rattle.contact_runs.specs.Runs as runs
 use Rattle.contact_runs.specs.Runs.{Entry, stepping, Told, stepped, Outcomes, end, ◌then◌, Calling, Promised, Ordered, Run}
 use Rattle.contact_runs.specs.OrderLaws.{pass_in_order, rows_in_order, answer_in_order}
 use Rattle.contact_runs.specs.Ordered.{stage_at, update_each, pass_after, rows_after, answer_after, InOrder}
+use Rattle.step.specs.declared.answer.StepReport.{StepReport}
+use Rattle.contact_types.specs.declared.refusal.Refusal.{Refusal}
 
 not_suc_zero : (n : ℕ) → suc n ≡ 0 → ⊥
 not_suc_zero n e = omega arith
@@ -22,7 +22,7 @@ not_suc_zero n e = omega arith
 -- ---- a step
 module _ (x : Given) (g : List ℕ) (l : Rows) where
   -- by its number: the order of the shares, or nothing
-  step_by : (n : ℕ) → step_refusal x g l ≡ n → {h : List ℕ} {l' : Rows} {r : StepAnswer}
+  step_by : (n : ℕ) → step_refusal x g l ≡ n → {h : List ℕ} {l' : Rows} {r : Result StepReport Refusal}
       → plain_answer r ≡ cond (eqb n 0) (answer_of x g) (step.refused n) → h ≡ cond (eqb n 0) (pass_of x g).graph g → l' ≡ cond (eqb n 0) (rows_of x g l) l
       → Ordered g (stepping x l) (stepped r l') h
   step_by zero z p q s =
@@ -48,10 +48,10 @@ module _ (x : Given) (g : List ℕ) (l : Rows) where
       moved : {h : List ℕ} {l' : Rows} → g ≡ h → l ≡ l' → Ordered g (stepping x l) (stepped r l) g → Ordered g (stepping x l) (stepped r l') h
       moved {h} {l'} e f c = subst (λ (k : List ℕ). Ordered g (stepping x l) (stepped r l') k) e (subst (λ (m : Rows). Ordered g (stepping x l) (stepped r m) g) f c)
 
-  ordered_step : {h : List ℕ} {l' : Rows} {r : StepAnswer} → Stepped x g l h l' r → Ordered g (stepping x l) (stepped r l') h
+  ordered_step : {h : List ℕ} {l' : Rows} {r : Result StepReport Refusal} → Stepped x g l h l' r → Ordered g (stepping x l) (stepped r l') h
   ordered_step k = step_by (step_refusal x g l) refl k.answer k.graph k.rows
 
-  refused_step : {r : StepAnswer} → step_refusal x g l ≢ 0 → plain_answer r ≡ step.refused (step_refusal x g l) → Stepped x g l g l r
+  refused_step : {r : Result StepReport Refusal} → step_refusal x g l ≢ 0 → plain_answer r ≡ step.refused (step_refusal x g l) → Stepped x g l g l r
   refused_step n p =
       let b = sym (ne_eqb (step_refusal x g l) 0 n) in
       record {
@@ -60,7 +60,7 @@ module _ (x : Given) (g : List ℕ) (l : Rows) where
         rows = ap (λ (t : Bool). cond t (rows_of x g l) l) b;
       }
 
-  step_in_order : {h : List ℕ} {l' : Rows} {r : StepAnswer} (ids : List ℕ) → InOrder x g l ids h l' r → Stepped x g l h l' r
+  step_in_order : {h : List ℕ} {l' : Rows} {r : Result StepReport Refusal} (ids : List ℕ) → InOrder x g l ids h l' r → Stepped x g l h l' r
   step_in_order ids i =
       let a = accepted x g l i.accepted in
       let z = sym i.accepted in
@@ -72,14 +72,14 @@ module _ (x : Given) (g : List ℕ) (l : Rows) where
 
 -- every order of the active contacts has its outcome
 pub any_in_order : (x : Given) (g : List ℕ) (l : Rows) (ids : List ℕ) → step_refusal x g l ≡ 0 → Distinct ids → SameMembers ids (active_of g)
-    → (h : List ℕ) × (l' : Rows) × (r : StepAnswer) × InOrder x g l ids h l' r
+    → (h : List ℕ) × (l' : Rows) × (r : Result StepReport Refusal) × InOrder x g l ids h l' r
 unfolding answer_after
 any_in_order x g l ids z d m =
     let s = update_each x (stage_at g) ids in
     let p = pass_after g s in (
       p.graph,
       rows_after g s l,
-      answer.Done (record { events = length p.events; changes = length p.changes; recycled = s.recycled }),
+      Ok (record { events = length p.events; changes = length p.changes; recycled = s.recycled }),
       record { accepted = z; once = d; active = m; answer = refl; graph = refl; rows = refl },
     )
 

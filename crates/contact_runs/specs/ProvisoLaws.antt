@@ -1,9 +1,8 @@
 -- The two provisos of the replay hold along every list of calls whose additions name both bodies and whose steps give each collider a body and no sensor. Assumes nothing.
-use Rattle.std.specs.Prelude.{ℕ, zero, suc, ◌≡◌, refl, Bool, cond, not, ◌&&◌, T, eqb}
+use Rattle.std.specs.Prelude.{ℕ, zero, suc, ◌≡◌, refl, Bool, cond, not, ◌&&◌, T, eqb, Option, None, Some}
 use Rattle.std.proofs.Common.{sym, ap, subst, eq-eqb}
 use Rattle.std.proofs.Math.Bool.{true, false}
 use mathlib.Core.List.{List, [], ◌∷◌, map, Memᴰ}
-use Rattle.std.proofs.Math.Option.{Option, none, some}
 use Rattle.math.specs.Constants.{zero_f}
 use Rattle.rules.specs.Graph.{Graph, empty_graph, new_pair, new_id, plain_add}
 use Rattle.rules.specs.Inputs.{Settings, Collider, Body, ProposedManifold, Inputs}
@@ -32,8 +31,8 @@ use Rattle.contact_runs.specs.Solver.{plain_of_write}
 
 -- ---- a step that gives each collider a body, and none is a sensor, turns no pair from generating to not
 abbrev pub Solid : (ℕ → Option Body) → Option Collider → Type 0
-Solid body none = Unit {0}
-Solid body (some c) = ((side_of c (body_of body c.body)).present ≡ true) × (c.sensor ≡ false)
+Solid body None = Unit {0}
+Solid body (Some c) = ((side_of c (body_of body c.body)).present ≡ true) × (c.sensor ≡ false)
 
 abbrev pub AllSolid : Inputs → Type 0
 AllSolid i = (n : ℕ) → Solid i.body (i.collider n)
@@ -55,8 +54,8 @@ module _ (s : Settings) (body : ℕ → Option Body) (answer : Bool) (proposal :
   overlapping_generates : (c1 c2 : Collider) (a b : Side) → T (enabled c1 c2 a b) → (t : Bool) (k : Option Cache)
       → T (overlapping s answer proposal c1 c2 a b p t k).pair.flags.generate_constraints
   unfolding overlapping recycled_pair
-  overlapping_generates c1 c2 a b e true (some k) = g
-  overlapping_generates c1 c2 a b e true none = renewed_generates c1 c2 a b e
+  overlapping_generates c1 c2 a b e true (Some k) = g
+  overlapping_generates c1 c2 a b e true None = renewed_generates c1 c2 a b e
   overlapping_generates c1 c2 a b e false k = renewed_generates c1 c2 a b e
 
   disjoint_generates : T (disjoint p).flags.generate_constraints
@@ -65,9 +64,9 @@ module _ (s : Settings) (body : ℕ → Option Body) (answer : Bool) (proposal :
 
   between_generates : (o1 o2 : Option Collider) → Solid body o1 → Solid body o2 → T (updated_between s body answer proposal p o1 o2).pair.flags.generate_constraints
   unfolding updated_between
-  between_generates none o2 h k = g
-  between_generates (some c1) none h k = g
-  between_generates (some c1) (some c2) h k =
+  between_generates None o2 h k = g
+  between_generates (Some c1) None h k = g
+  between_generates (Some c1) (Some c2) h k =
       let a = side_of c1 (body_of body c1.body) in
       let b = side_of c2 (body_of body c2.body) in
       let t = recycles s p.flags.touching a b p.cache in
@@ -83,22 +82,22 @@ keeps_generating_lem i h p t g =
 
 -- ---- the pairs of a graph name both their bodies
 abbrev NamedPair : Option Pair → Type 0
-NamedPair none = Unit {0}
-NamedPair (some p) = T (named p.names.body1) × T (named p.names.body2)
+NamedPair None = Unit {0}
+NamedPair (Some p) = T (named p.names.body1) × T (named p.names.body2)
 
 abbrev pub AllNamed : Graph → Type 0
 AllNamed g = (k : ℕ) → NamedPair (find k g.pairs)
 
 -- a pair with the same names
-renamed : (p q : Pair) → q.names ≡ p.names → NamedPair (some p) → NamedPair (some q)
+renamed : (p q : Pair) → q.names ≡ p.names → NamedPair (Some p) → NamedPair (Some q)
 renamed p q e n = subst (λ (m : Names). T (named m.body1) × T (named m.body2)) (sym e) n
 
 first_named : (o o' : Option Pair) → NamedPair o → NamedPair o' → NamedPair (first o o')
-first_named none o' n m = m
-first_named (some p) o' n m = n
+first_named None o' n m = m
+first_named (Some p) o' n m = n
 
 -- what a status case leaves
-next_named : (v : Verdict) (q : Pair) → NamedPair (some q) → NamedPair (next v q)
+next_named : (v : Verdict) (q : Pair) → NamedPair (Some q) → NamedPair (next v q)
 next_named vanishes q n = tt
 next_named starts q n = n
 next_named stops q n = n
@@ -106,7 +105,7 @@ next_named generates q n = n
 next_named recounts q n = n
 next_named persists q n = n
 
-left_named : (q : Pair) (t : Bool) → NamedPair (some q) → NamedPair (outcome_of q t)
+left_named : (q : Pair) (t : Bool) → NamedPair (Some q) → NamedPair (outcome_of q t)
 left_named q true n = next_named (verdict q) q n
 left_named q false n = n
 
@@ -114,14 +113,14 @@ step_named : (i : Inputs) (g : Graph) → Sound g → AllNamed g → AllNamed (p
 step_named i g s n k = subst (λ (h : Graph). NamedPair (find k h.pairs)) (sym (step_graph i g)) (go (find k g.pairs) refl (n k))
   where
     go : (o : Option Pair) → find k g.pairs ≡ o → NamedPair o → NamedPair (find k (pass_end i g).graph.pairs)
-    go none e m = subst NamedPair (sym (end_none i g s k e)) tt
-    go (some p) e m =
-        subst NamedPair (sym (end_find i g s k p e (updated i p).bit (bits i g s k (some p) e)))
+    go None e m = subst NamedPair (sym (end_none i g s k e)) tt
+    go (Some p) e m =
+        subst NamedPair (sym (end_find i g s k p e (updated i p).bit (bits i g s k (Some p) e)))
         (left_named (updated i p).pair (updated i p).bit (renamed p (updated i p).pair (names_kept i p) m))
 
 mapped_named : (f : Pair → Pair) → ((p : Pair) → (f p).names ≡ p.names) → (o : Option Pair) → NamedPair o → NamedPair (mapped f o)
-mapped_named f e none n = tt
-mapped_named f e (some p) n = renamed p (f p) (e p) n
+mapped_named f e None n = tt
+mapped_named f e (Some p) n = renamed p (f p) (e p) n
 
 names_written : (w : Write) (p : Pair) → (pair_written w p).names ≡ p.names
 unfolding stripped
@@ -151,9 +150,9 @@ unfolding find
 new_named a id k e = go (eqb id k)
   where
     body : (m n : ℕ) → m ≡ 1 → T (named (optional m n))
-    body m n e = subst (λ (t : Bool). T (named (cond t (some n) none))) (sym (eq-eqb m 1 e)) tt
+    body m n e = subst (λ (t : Bool). T (named (cond t (Some n) None))) (sym (eq-eqb m 1 e)) tt
 
-    go : (t : Bool) → NamedPair (cond t (some (new_pair id (addition_of a))) none)
+    go : (t : Bool) → NamedPair (cond t (Some (new_pair id (addition_of a))) None)
     go true = (body a.has_body1 a.body1 e.0, body a.has_body2 a.body2 e.1)
     go false = tt
 
@@ -181,7 +180,7 @@ unfolding ProvisosAt
 provisos_at (addition a) g k s n = tt
 provisos_at (stepping x l) g k s n = λ t p m. (λ q. both_bodies p m, keeps_generating_lem (inputs x) k p)
   where
-    both_bodies : (p : Pair) → Memᴰ p g.pairs → NamedPair (some (updated (inputs x) p).pair)
+    both_bodies : (p : Pair) → Memᴰ p g.pairs → NamedPair (Some (updated (inputs x) p).pair)
     both_bodies p m = renamed p (updated (inputs x) p).pair (names_kept (inputs x) p) (subst NamedPair (sound_find g s p m) (n p.names.id))
 provisos_at (impulses ws) g k s n = tt
 

@@ -1,12 +1,11 @@
 -- In the plain run of a list of calls an addition that is not refused finds room, so the replay of its changes holds what the graph holds.
 -- The changes that the calls themselves have written, read back and replayed, do the same. Assumes nothing.
 use Prim.Native.Nat.{ℕ, zero, suc}
-use Rattle.std.specs.Prelude.{◌≡◌, refl, Bool, true, eqb, length}
+use Rattle.std.specs.Prelude.{◌≡◌, refl, Bool, true, eqb, length, Result, None}
 use Rattle.std.proofs.Common.{sym, subst, ◌∙◌, eqb-true}
 use Rattle.std.proofs.Math.Path.{ap}
 use Rattle.std.proofs.Math.Bool.{cond}
 use mathlib.Core.List.{List, [], ◌∷◌, map}
-use Rattle.std.proofs.Math.Option.{none}
 use Rattle.std.proofs.lemmas.Bool.{eqb-false}
 use Rattle.std.proofs.Math.Dec.{eqb-suc-zero}
 use Rattle.rule_laws.specs.AnswerLaws.{answers_replay_holds}
@@ -26,7 +25,6 @@ use Rattle.contact_graph.specs.declared.call.Request.{Request}
 use Rattle.step.specs.Step as step
 use Rattle.step.specs.Step.{Given, Rows, step_refusal, inputs, pass_of, rows_of, answer_of, plain_answer}
 use Rattle.step.proofs.StepLaws.{step_means}
-use Rattle.step.specs.declared.answer.StepAnswer.{StepAnswer}
 use Rattle.contact_runs.specs.Runs as runs
 use Rattle.contact_runs.specs.Claim.{plain_of, told_changes, replay_told}
 use Rattle.contact_runs.specs.Runs.{Entry, addition, stepping, impulses, Told, Outcomes, end, ◌then◌, Promised, Run}
@@ -34,6 +32,8 @@ use Rattle.contact_runs.specs.RefusalLaws.{step_refusal_lem}
 use Rattle.contact_runs.specs.Refusals.{some_pair, plain_add_refusal}
 use Rattle.contact_runs.specs.RunLaws.{call_plain}
 use Rattle.step.proofs.ReadLaws.{refused_changes, changes_read}
+use Rattle.step.specs.declared.answer.StepReport.{StepReport}
+use Rattle.contact_types.specs.declared.refusal.Refusal.{Refusal}
 
 -- the number 5 of an addition
 add_spare : (a : Request) (g : Graph) → plain_add_refusal a g ≡ 0 → length g.pairs ≡ g.capacity → ⊥
@@ -55,7 +55,7 @@ room_along [] g s = tt
 room_along (e ∷ es) g s = let q = room_at e g s in (q, room_along es (plain_call (plain_of e) g).graph (call_sound (plain_of e) g s q))
 
 pub replay_plain : (es : List Entry) (capacity : ℕ) → Provisos (map plain_of es) (empty_graph capacity)
-    → (id : ℕ) → replay_answers (plain_run (map plain_of es) (empty_graph capacity)) (λ _. none) id ≡ held_in (plain_graph (map plain_of es) (empty_graph capacity)).pairs id
+    → (id : ℕ) → replay_answers (plain_run (map plain_of es) (empty_graph capacity)) (λ _. None) id ≡ held_in (plain_graph (map plain_of es) (empty_graph capacity)).pairs id
 replay_plain es capacity p id = answers_replay_holds capacity (map plain_of es) p (room_along es (empty_graph capacity) (empty_sound capacity)) id
 
 -- ---- the changes that the calls have written
@@ -67,7 +67,7 @@ module _ (g : List ℕ) (x : Given) (l : Rows) where
   abbrev plain_stepped : After
   plain_stepped = record { graph = (plain_step (inputs x) (graph_of g)).graph; answer = stepped (plain_step (inputs x) (graph_of g)) }
 
-  step_replays : (h : List ℕ) (l' : Rows) (r : StepAnswer) (n : ℕ) → step_refusal x g l ≡ n
+  step_replays : (h : List ℕ) (l' : Rows) (r : Result StepReport Refusal) (n : ℕ) → step_refusal x g l ≡ n
       → plain_answer r ≡ cond (eqb n 0) (answer_of x g) (step.refused n) → h ≡ cond (eqb n 0) (pass_of x g).graph g → l' ≡ cond (eqb n 0) (rows_of x g l) l
       → Replays (stepping x l) (runs.stepped r l') h (unless_refused n (graph_of g) plain_stepped)
   unfolding replay replay_answer

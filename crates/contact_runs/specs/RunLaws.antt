@@ -1,5 +1,5 @@
 -- A call that keeps its promise, and a list of such calls, do and tell what the plain run has. Assumes nothing.
-use Rattle.std.specs.Prelude.{ℕ, zero, suc, ◌≡◌, refl, Bool, cond, eqb, length}
+use Rattle.std.specs.Prelude.{ℕ, zero, suc, ◌≡◌, refl, Bool, cond, eqb, length, Result}
 use Rattle.std.proofs.Common.{sym, subst, ◌∙◌}
 use Rattle.std.proofs.Math.Path.{ap}
 use mathlib.Core.List.{List, [], ◌∷◌, map}
@@ -16,13 +16,11 @@ use Rattle.contact_range.specs.Checked.{Checked}
 use Rattle.contact_graph.specs.Promises as graph
 use Rattle.contact_graph.specs.Promises.{Added, add_answer}
 use Rattle.contact_range.specs.Recorded.{graph_of}
-use Rattle.contact_graph.specs.declared.add.AddAnswer.{AddAnswer}
 use Rattle.contact_graph.specs.declared.call.Request.{Request}
 use Rattle.status_pass.specs.EventsAndChanges.{event_words, change_words}
 use Rattle.step.specs.Step as step
 use Rattle.step.specs.Step.{Given, Rows, Stepped, step_refusal, inputs, pass_of, rows_of, answer_of, plain_answer}
 use Rattle.step.proofs.StepLaws.{StepMeans, step_checked, step_means}
-use Rattle.step.specs.declared.answer.StepAnswer.{StepAnswer}
 use Rattle.contact_runs.specs.Runs as runs
 use Rattle.contact_runs.specs.Claim.{plain_of, ReportIs, AnswerIs, addition_refused, addition_made, step_refused, step_made, nothing, AsPlain, plain_end, plain_then}
 use Rattle.contact_runs.specs.Runs.{Entry, addition, stepping, Told, added, stepped, Outcomes, end, ◌then◌, Promised, Run}
@@ -30,6 +28,9 @@ use Rattle.step.proofs.ReadLaws.{events_read, changes_read}
 use Rattle.contact_runs.specs.RefusalLaws.{add_refusal_lem, step_refusal_lem}
 use Rattle.contact_runs.specs.Refusals.{plain_add_refusal, plain_step_refusal}
 use Rattle.contact_runs.specs.WriteLaws.{writes_checked, writes_mean}
+use Rattle.step.specs.declared.answer.StepReport.{StepReport}
+use Rattle.contact_types.specs.declared.refusal.Refusal.{Refusal}
+use Rattle.contact_types.specs.declared.contact_id.ContactId.{ContactId}
 
 -- ---- a call
 -- where a call leads: a graph in range, the plain answer and the plain graph
@@ -41,7 +42,7 @@ module _ (g : List ℕ) (c : Checked g) where
   abbrev plain_added : Request → rules.After
   plain_added a = record { graph = plain_add (addition_of a) (graph_of g); answer = rules.added (new_id (graph_of g)) }
 
-  added_leads : (a : Request) (h : List ℕ) (r : AddAnswer) (n : ℕ) → FitFloat a.speculative_distance → add_refusal g a ≡ n
+  added_leads : (a : Request) (h : List ℕ) (r : Result ContactId Refusal) (n : ℕ) → FitFloat a.speculative_distance → add_refusal g a ≡ n
       → add_answer r ≡ cond (eqb n 0) (graph.added (new_id_of g)) (graph.refused_id n) → h ≡ cond (eqb n 0) (added_words g a) g
       → Leads (addition a) (added r) h (unless_refused n (graph_of g) (plain_added a))
   added_leads a h r zero f z p q =
@@ -50,7 +51,7 @@ module _ (g : List ℕ) (c : Checked g) where
       let e : h ≡ g = q ∙ ap (λ (b : Bool). cond b (added_words g a) g) (eqb-suc-zero n) in
       (subst Checked (sym e) c, addition_refused (p ∙ ap (λ (b : Bool). cond b (graph.added (new_id_of g)) (graph.refused_id (suc n))) (eqb-suc-zero n)), ap graph_of e)
 
-  add_plain : (a : Request) (h : List ℕ) (r : AddAnswer) → FitFloat a.speculative_distance → Added g a h r
+  add_plain : (a : Request) (h : List ℕ) (r : Result ContactId Refusal) → FitFloat a.speculative_distance → Added g a h r
       → Leads (addition a) (added r) h (unless_refused (plain_add_refusal a (graph_of g)) (graph_of g) (plain_added a))
   add_plain a h r f k =
       subst (λ (n : ℕ). Leads (addition a) (added r) h (unless_refused n (graph_of g) (plain_added a))) (add_refusal_lem c a)
@@ -61,7 +62,7 @@ module _ (g : List ℕ) (c : Checked g) where
     abbrev plain_stepped : rules.After
     plain_stepped = record { graph = (plain_step (inputs x) (graph_of g)).graph; answer = rules.stepped (plain_step (inputs x) (graph_of g)) }
 
-    report : step_refusal x g l ≡ 0 → (l' : Rows) (r : StepAnswer) → StepMeans x g → plain_answer r ≡ answer_of x g → l' ≡ rows_of x g l → ReportIs l l' r (plain_step (inputs x) (graph_of g))
+    report : step_refusal x g l ≡ 0 → (l' : Rows) (r : Result StepReport Refusal) → StepMeans x g → plain_answer r ≡ answer_of x g → l' ≡ rows_of x g l → ReportIs l l' r (plain_step (inputs x) (graph_of g))
     unfolding answer_of rows_of
     report z l' r m p q =
         record {
@@ -73,7 +74,7 @@ module _ (g : List ℕ) (c : Checked g) where
           distances = ap (λ (t : Rows). t.distances) q ∙ m.distances;
         }
 
-    stepped_leads : (h : List ℕ) (l' : Rows) (r : StepAnswer) (n : ℕ) → step_refusal x g l ≡ n
+    stepped_leads : (h : List ℕ) (l' : Rows) (r : Result StepReport Refusal) (n : ℕ) → step_refusal x g l ≡ n
         → plain_answer r ≡ cond (eqb n 0) (answer_of x g) (step.refused n) → h ≡ cond (eqb n 0) (pass_of x g).graph g → l' ≡ cond (eqb n 0) (rows_of x g l) l
         → Leads (stepping x l) (stepped r l') h (unless_refused n (graph_of g) plain_stepped)
     stepped_leads h l' r zero z p q s =
@@ -86,7 +87,7 @@ module _ (g : List ℕ) (c : Checked g) where
           ap graph_of e,
         )
 
-    step_plain : (h : List ℕ) (l' : Rows) (r : StepAnswer) → Stepped x g l h l' r
+    step_plain : (h : List ℕ) (l' : Rows) (r : Result StepReport Refusal) → Stepped x g l h l' r
         → Leads (stepping x l) (stepped r l') h (unless_refused (plain_step_refusal x l (graph_of g)) (graph_of g) plain_stepped)
     step_plain h l' r k =
         subst (λ (n : ℕ). Leads (stepping x l) (stepped r l') h (unless_refused n (graph_of g) plain_stepped)) (step_refusal_lem c x l)

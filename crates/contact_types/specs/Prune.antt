@@ -1,5 +1,5 @@
 -- The call `prune`: its answer for every input. Definitions only.
-use Rattle.std.specs.Prelude.{ℕ, ◌+◌, ◌*◌, ◌<◌, ◌≡◌, cond, not, List, eqb, ltb, length}
+use Rattle.std.specs.Prelude.{ℕ, ◌+◌, ◌*◌, ◌<◌, ◌≡◌, cond, not, List, eqb, ltb, length, Err, Ok, Result}
 use Rattle.math.specs.declared.vec.Vec3.{Vec3}
 use Rattle.layout.specs.Prune.{prune_point_penetration, prune_point_size, prune_points_length}
 use Rattle.rules.specs.Limits.{proposed_points, stored_points}
@@ -9,8 +9,7 @@ use Rattle.contact_types.specs.Refusals.{number_of}
 use Rattle.contact_types.specs.Pruned.{point_by, kept_struct}
 use Rattle.contact_types.specs.declared.pruning.KeptPoints.{KeptPoints}
 use Rattle.contact_types.specs.declared.pruning.PrunePoint.{PrunePoint}
-use Rattle.contact_types.specs.declared.prune.PruneAnswer.{PruneAnswer}
-use Rattle.contact_types.specs.declared.prune.PruneAnswer.TheVariants.{Kept, Refused}
+use Rattle.contact_types.specs.declared.refusal.Refusal.{Refusal}
 
 -- point k of the lent words: anchor 1, then penetration
 abbrev pub prune_point_at : List ℕ → ℕ → rules.PrunePoint
@@ -21,7 +20,7 @@ pub data Answer (Points : Type 0) : Type 0 where
   refused : ℕ → Answer Points
   keeps : Points → Answer Points
 
--- refusals 1, 8, 6, in that order: a length that is not that of `proposed_points` points (short sheet), no more points than are stored (thin manifold), over `proposed_points` points (overfull proposal)
+-- refusals 1, 8, 6, in that order: a length that is not that of `proposed_points` points, no more points than are stored, over `proposed_points` points
 unfoldable pub prune_answer : Vec3 → List ℕ → ℕ → Answer (List ℕ)
 prune_answer normal words count =
     cond (not (eqb (length words) prune_points_length)) (refused 1)
@@ -35,12 +34,12 @@ in_struct (refused n) = refused n
 in_struct (keeps ks) = keeps (kept_struct ks)
 
 -- an answer of the code
-abbrev pub answer_of : PruneAnswer → Answer KeptPoints
-answer_of (Kept k) = keeps k
-answer_of (Refused r) = refused (number_of r)
+abbrev pub answer_of : Result KeptPoints Refusal → Answer KeptPoints
+answer_of (Ok k) = keeps k
+answer_of (Err r) = refused (number_of r)
 
 -- The promise of `prune`. The lent points are read only.
-pub record Pruned (normal : Vec3) (words : List ℕ) (count : ℕ) (r : PruneAnswer) : Type 0 where
+pub record Pruned (normal : Vec3) (words : List ℕ) (count : ℕ) (r : Result KeptPoints Refusal) : Type 0 where
   pub answer : answer_of r ≡ in_struct (prune_answer normal words count)
 
 -- the first points of the array are those of the words

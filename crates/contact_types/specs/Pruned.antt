@@ -1,10 +1,9 @@
 -- Pruning's structs as the plain records of `rules`, and what the code's steps give. Definitions only.
-use Rattle.std.specs.Prelude.{ℕ, ◌<◌, ◌≡◌, Bool, cond, ◌&&◌, List, [], ◌∷◌, eqb, Float, get_or, take, length}
-use Rattle.std.proofs.Math.Option.{Option, none, some}
+use Rattle.std.specs.Prelude.{ℕ, ◌<◌, ◌≡◌, Bool, cond, List, [], ◌∷◌, Float, get_or, take, length, Some}
 use Rattle.std.specs.Float.{nan}
-use Rattle.std.specs.Float.Ieee.{lt}
 use Rattle.math.specs.Vec.{vec3}
 use Rattle.math.specs.declared.vec.Vec3.{Vec3}
+use Rattle.rules.specs.Numbers.{Leading}
 use Rattle.rules.specs.Pruning as rules
 use Rattle.contact_types.specs.declared.pruning.PrunePoint.{PrunePoint}
 use Rattle.contact_types.specs.declared.pruning.Projected.{Projected}
@@ -29,25 +28,26 @@ projected_by ps k = projected_of (get_or ps k (record { point = vec3 nan nan nan
 pub record AllProjected (normal : Vec3) (points : List PrunePoint) (ps : List Projected) (count : ℕ) : Type 0 where
   pub each : (k : ℕ) → k < count → projected_by ps k ≡ rules.projected normal (point_by points k)
 
--- a number or `NONE`
-abbrev pub numbered : Option ℕ → ℕ
-numbered none = 0xffff_ffff
-numbered (some i) = i
+-- what a call returns, at any argument, is the function's value there
+pub record Computes {X Y : Type 0} (post : X → Y → Type 0) (f : X → Y) : Type 0 where
+  pub each : (x : X) (y : Y) → post x y → y ≡ f x
 
--- the number as a list, if it is one
-abbrev pub listed_number : ℕ → List ℕ
-listed_number n = cond (eqb n 0xffff_ffff) [] (n ∷ [])
+-- the weights of points by their numbers, by a squared distance
+abbrev pub weighed : (Vec3 → Float) → (ℕ → rules.Projected) → ℕ → Float
+weighed squared p k = rules.weight (squared (p k).point) (p k)
 
-abbrev pub overtaking : Lead → Bool → Float → ℕ → Lead
-overtaking l among value k = cond (among && lt l.value value) (record { value = value; index = k }) l
+-- the code's lead as the rule's
+abbrev pub leading_of : Lead → Leading
+leading_of l = record { value = l.value; who = l.index }
 
-abbrev pub undertaking : Lead → Bool → Float → ℕ → Lead
-undertaking l among value k = cond (among && lt value l.value) (record { value = value; index = k }) l
+-- k leads where it wins
+abbrev pub passed : Lead → Bool → Float → ℕ → Lead
+passed l wins value k = cond wins (record { value = value; index = Some k }) l
 
 -- points 3 and 4
 pub record SidesFound (normal : Vec3) (count : ℕ) (p : ℕ → rules.Projected) (i j : ℕ) (s : Sides) : Type 0 where
-  pub below : s.below ≡ numbered (rules.point3 normal count p i j)
-  pub above : s.above ≡ numbered (rules.point4 normal count p i j)
+  pub below : s.below ≡ rules.point3 normal count p i j
+  pub above : s.above ≡ rules.point4 normal count p i j
 
 -- the struct for a list of numbers: how many there are, then the numbers, 0 past them
 abbrev pub kept_struct : List ℕ → KeptPoints

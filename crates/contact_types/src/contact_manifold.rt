@@ -2,7 +2,7 @@
 use math::quat::Quat;
 use math::vec::Vec3;
 
-#[derive(Clone, Copy)]
+#[derive(Clone, Copy, PartialEq, Debug)]
 pub struct ContactRecyclingCache {
     pub rotation1: Quat,
     pub rotation2: Quat,

@@ -1,11 +1,13 @@
 // A point of a contact manifold, by value. From avian's contact_types/mod.rs.
+#![tactic(auto, unfolding(crate::specs::Points::new_point, crate::specs::Points::with_features))]
+
 ghost use Rattle.std.specs.Prelude.{◌≡◌};
 ghost use Rattle.contact_types.specs.Points.{new_point, with_features};
 
 use crate::feature_id::PackedFeatureId;
 use math::vec::{Vec2, Vec3};
 
-#[derive(Clone, Copy)]
+#[derive(Clone, Copy, PartialEq, Debug)]
 pub struct ContactPoint {
     // Relative to the bodies' centres of mass, in world space.
     pub anchor1: Vec3,

@@ -1,5 +1,7 @@
 // When a new point matches an old one. From `match_contacts` of avian's contact_types/mod.rs; the loops over points and manifolds stand in `manifold_matching`.
-ghost use Rattle.std.specs.Prelude.{◌≡◌, ◌&&◌, eqb};
+#![tactic(auto, unfolding(rules::specs::Matching::by_number, rules::specs::Matching::by_place, rules::specs::Matching::anchors_match))]
+
+ghost use Rattle.std.specs.Prelude.{◌≡◌, ◌&&◌};
 ghost use Rattle.rules.specs.Matching.{by_number, feature_rule, unknown, close, anchors_match, matches};
 ghost use Rattle.contact_types.specs.Views.{point_of};
 
@@ -7,30 +9,20 @@ use crate::contact_point::ContactPoint;
 use crate::feature_id::PackedFeatureId;
 use math::vec::Vec3;
 
-// a1 and b1, and a2 and b2.
-fn equal(a1: PackedFeatureId, a2: PackedFeatureId, b1: PackedFeatureId, b2: PackedFeatureId) -> bool
-    ensures { result ≡ (eqb a1.0 b1.0 && eqb a2.0 b2.0) }
-{
-    a1.0 == b1.0 && a2.0 == b2.0
-}
-
 // By number, straight or crossed: the bodies may have changed places. An unknown feature equals another.
 fn same_features(new: ContactPoint, old: ContactPoint) -> bool
     ensures { result ≡ by_number (point_of new) (point_of old) }
 {
-    let new1 = new.feature_id1;
-    let new2 = new.feature_id2;
-    let old1 = old.feature_id1;
-    let old2 = old.feature_id2;
-    equal(new1, new2, old1, old2) || equal(new2, new1, old1, old2)
+    let (new1, new2) = (new.feature_id1, new.feature_id2);
+    let olds = (old.feature_id1, old.feature_id2);
+    (new1, new2) == olds || (new2, new1) == olds
 }
 
 // A new feature is unknown.
 fn has_unknown(new: ContactPoint) -> bool
     ensures { result ≡ unknown (point_of new) }
 {
-    new.feature_id1.0 == PackedFeatureId::UNKNOWN.0
-        || new.feature_id2.0 == PackedFeatureId::UNKNOWN.0
+    new.feature_id1 == PackedFeatureId::UNKNOWN || new.feature_id2 == PackedFeatureId::UNKNOWN
 }
 
 // By place, the features of a new point with an unknown one are not compared.
@@ -54,10 +46,8 @@ fn close(a1: Vec3, a2: Vec3, b1: Vec3, b2: Vec3, threshold_squared: f32) -> bool
 fn close_anchors(new: ContactPoint, old: ContactPoint, threshold_squared: f32) -> bool
     ensures { result ≡ anchors_match threshold_squared (point_of new) (point_of old) }
 {
-    let new1 = new.anchor1;
-    let new2 = new.anchor2;
-    let old1 = old.anchor1;
-    let old2 = old.anchor2;
+    let (new1, new2) = (new.anchor1, new.anchor2);
+    let (old1, old2) = (old.anchor1, old.anchor2);
     let crossed = close(new1, new2, old2, old1, threshold_squared);
     if has_unknown(new) {
         return close(new1, new2, old1, old2, threshold_squared) || crossed;

@@ -7,25 +7,18 @@ ghost use Rattle.contact_types.specs.Pruned.{prune_point_of};
 
 use crate::pruning::{KeptPoints, PrunePoint, prune_points};
 use crate::refusal::Refusal;
-use layout::limits::PROPOSED_POINTS;
+use layout::limits::{PROPOSED_POINTS, STORED_POINTS};
 use layout::prune::{PRUNE_POINT_PENETRATION, PRUNE_POINT_SIZE, PRUNE_POINTS_LENGTH};
 use math::vec::Vec3;
-use words::row::load_float;
-use words::vec::load_vec3;
-
-#[derive(Clone, Copy)]
-pub enum PruneAnswer {
-    Kept(KeptPoints),
-    Refused(Refusal),
-}
+use words::load::load;
 
 fn load_point(points: &[u32], k: usize) -> PrunePoint
     requires { prune_point_size * k + prune_point_size ≤ length points.now }
     ensures { prune_point_of result ≡ prune_point_at points.now k }
 {
     PrunePoint {
-        anchor1: load_vec3(points, PRUNE_POINT_SIZE * k),
-        penetration: load_float(points, PRUNE_POINT_SIZE * k + PRUNE_POINT_PENETRATION),
+        anchor1: load(points, PRUNE_POINT_SIZE * k),
+        penetration: load(points, PRUNE_POINT_SIZE * k + PRUNE_POINT_PENETRATION),
     }
 }
 
@@ -33,33 +26,26 @@ fn load_points(points: &[u32], count: usize) -> [PrunePoint; PROPOSED_POINTS]
     requires { (count ≤ proposed_points) × (length points.now ≡ prune_points_length) }
     ensures { LoadedPoints points.now result count }
 {
-    let none = PrunePoint {
-        anchor1: Vec3::ZERO,
-        penetration: 0.0,
-    };
-    let mut loaded = [none; PROPOSED_POINTS];
-    let mut k = 0;
-    while k < count {
-        let p = load_point(points, k);
-        loaded[k] = p;
-        k += 1;
+    let mut loaded = [PrunePoint::default(); PROPOSED_POINTS];
+    for k in 0..count {
+        loaded[k] = load_point(points, k);
     }
     loaded
 }
 
 // The points' numbers go by their places in the buffer, from 0.
-pub fn prune(normal: Vec3, points: &[u32], count: u32) -> PruneAnswer
+pub fn prune(normal: Vec3, points: &[u32], count: u32) -> Result<KeptPoints, Refusal>
     ensures { Pruned normal points.now count result }
 {
     if points.len() != PRUNE_POINTS_LENGTH {
-        return PruneAnswer::Refused(Refusal::WrongLength);
+        return Err(Refusal::WrongLength);
     }
-    if count < 5 {
-        return PruneAnswer::Refused(Refusal::TooFewPoints);
+    if count as usize <= STORED_POINTS {
+        return Err(Refusal::TooFewPoints);
     }
     if PROPOSED_POINTS < count as usize {
-        return PruneAnswer::Refused(Refusal::ProposalTooLarge);
+        return Err(Refusal::ProposalTooLarge);
     }
     let loaded = load_points(points, count as usize);
-    PruneAnswer::Kept(prune_points(loaded, count as usize, normal))
+    Ok(prune_points(&loaded[..count as usize], normal))
 }

@@ -1,6 +1,5 @@
-// The draws that the cases are made of: by the key of what is made and the choice's number. The seed is 20260.
-ghost use Rattle.std.specs.Prelude.{◌<◌};
-
+// The draws that the cases are made of: by the key of what is made and the choice's number.
+use case_draws::draws::{coarse, common, pick, seeded};
 use math::bits::float_of;
 use math::vec::Vec3;
 
@@ -24,56 +23,52 @@ const AWKWARD: [u32; 16] = [
     0xb586_37bd,
 ];
 
-// -2, -1, -0.5, 0, 0.5, 1, 2.
-const COARSE: [u32; 7] = [
-    0xc000_0000,
-    0xbf80_0000,
-    0xbf00_0000,
-    0x0000_0000,
-    0x3f00_0000,
-    0x3f80_0000,
-    0x4000_0000,
-];
-
-// The lowest 32 bits.
-fn low(x: u64) -> u64
-    ensures { result < 4294967296 }
-{
-    x % 4294967296
-}
+const SEED: u32 = 20260;
 
 pub fn draw(key: u32, slot: u32) -> u32 {
-    let a = low(key as u64 + slot as u64 * 2654435769 + 20260);
-    let b = low((a + a / 65536) * 2246822519);
-    let c = low((b + b / 32768) * 3266489917);
-    low(c + c / 65536) as u32
+    seeded(SEED, key, slot)
 }
 
-// Of either sign, from 2^-7 to 2.
-fn common(d: u32) -> u32 {
-    d / 0x8000_0000 * 0x8000_0000 + (120 + d / 0x80_0000 % 8) * 0x80_0000 + d % 0x80_0000
+// What kind of number is drawn.
+#[derive(Clone, Copy, Debug, PartialEq, Eq)]
+pub enum Kind {
+    One,
+    Coarse,
+    Common,
+    // One in six is awkward, else common.
+    AtTimesAwkward,
+    Awkward,
 }
 
-// Kinds: 0 one, 1 coarse, 2 common, 3 one in six awkward, 4 awkward.
-fn pattern(d: u32, kind: u32) -> u32 {
+impl Kind {
+    pub const ALL: [Self; 5] = [
+        Kind::One,
+        Kind::Coarse,
+        Kind::Common,
+        Kind::AtTimesAwkward,
+        Kind::Awkward,
+    ];
+}
+
+fn awkward(d: u32) -> u32 {
+    pick(&AWKWARD, d)
+}
+
+fn pattern(d: u32, kind: Kind) -> u32 {
     match kind {
-        0 => 0x3f80_0000,
-        1 => COARSE[(d % 7) as usize],
-        2 => common(d),
-        3 => if d % 6 == 0 {
-            AWKWARD[(d / 6 % 16) as usize]
-        } else {
-            common(d)
-        },
-        _ => AWKWARD[(d % 16) as usize],
+        Kind::One => 0x3f80_0000,
+        Kind::Coarse => coarse(d),
+        Kind::AtTimesAwkward if d % 6 == 0 => awkward(d / 6),
+        Kind::Common | Kind::AtTimesAwkward => common(d),
+        Kind::Awkward => awkward(d),
     }
 }
 
-pub fn number(owner: u32, slot: u32, kind: u32) -> f32 {
+pub fn number(owner: u32, slot: u32, kind: Kind) -> f32 {
     float_of(pattern(draw(owner, slot), kind))
 }
 
-pub fn vector(key: u32, kind: u32) -> Vec3 {
+pub fn vector(key: u32, kind: Kind) -> Vec3 {
     Vec3 {
         x: number(key, 1, kind),
         y: number(key, 2, kind),

@@ -3,7 +3,6 @@
 #![tactic(auto)]
 
 mod draws;
-mod line;
 mod matching;
 mod pruning;
 
@@ -14,8 +13,6 @@ fn main(rt: HostRuntime) -> io::Result<()> {
     let mut out = BufWriter::new(rt.alloc(), rt.stdout())?;
     pruning::print_cases(&mut out)?;
     matching::print_cases(&mut out, false)?;
-    matching::print_single_cases(&mut out, false)?;
     matching::print_cases(&mut out, true)?;
-    matching::print_single_cases(&mut out, true)?;
     out.flush()
 }

@@ -4,31 +4,18 @@
 ghost use Rattle.std.specs.Prelude.{◌≤◌};
 ghost use Rattle.rules.specs.Limits.{stored_points};
 
-use crate::draws::{draw, number, vector};
-use crate::line::print_float;
-use case_draws::line::{print_end, print_name, print_word};
-use case_draws::manifolds::few_points;
+use crate::draws::{Kind, draw, number, vector};
+use case_draws::draws::pick;
+use case_draws::manifolds::{feature_word, few_points, grid};
 use case_draws::numbers::MANIFOLDS;
 use contact_types::contact_point::ContactPoint;
 use contact_types::feature_id::PackedFeatureId;
 use contact_types::matching::matches;
 use layout::limits::STORED_POINTS;
-use math::bits::float_of;
+use math::bits::{bits_of, float_of};
 use math::vec::{Vec2, Vec3};
 use std::io;
 use std::io::Write;
-
-// 0, 0.1, 0.05, the floats beside 0.1, -0.1, 0.5.
-const OFFSETS: [u32; 8] = [
-    0x0000_0000,
-    0x0000_0000,
-    0x3dcc_cccd,
-    0x3d4c_cccd,
-    0x3dcc_cccc,
-    0x3dcc_ccce,
-    0xbdcc_cccd,
-    0x3f00_0000,
-];
 
 // 0.1, -0.1, 0, NaN, 1e10, 0.5, the float after 0.1, infinite.
 const THRESHOLDS: [u32; 12] = [
@@ -50,58 +37,46 @@ const THRESHOLDS: [u32; 12] = [
 #[derive(Clone, Copy)]
 struct Points {
     list: [ContactPoint; STORED_POINTS],
-    count: u32,
+    count: usize,
+    ghost within: { count ≤ stored_points },
 }
 
-fn offset(d: u32) -> f32 {
-    float_of(OFFSETS[(d % 8) as usize])
+impl Points {
+    fn as_slice(&self) -> &[ContactPoint] {
+        &self.list[..self.count]
+    }
 }
 
 fn threshold(key: u32) -> f32 {
-    float_of(THRESHOLDS[(draw(key, 3) % 12) as usize])
+    float_of(pick(&THRESHOLDS, draw(key, 3)))
 }
 
 fn grid_spot(key: u32) -> Vec3 {
     Vec3 {
-        x: offset(draw(key, 1) % 2 * 7),
-        y: offset(draw(key, 2)),
-        z: offset(draw(key, 3) % 3),
+        x: float_of(grid(draw(key, 1), 0)),
+        y: float_of(grid(draw(key, 2), 1)),
+        z: float_of(grid(draw(key, 3), 2)),
     }
 }
 
-// A grid with small offsets; style 1 far from one another, 2 with awkward floats.
-fn spot(owner: u32, slot: u32, style: u32) -> Vec3 {
+// By the case's choice far from one another, or some with awkward floats, else on the grid.
+fn spot(owner: u32, slot: u32, choice: u32) -> Vec3 {
     let key = draw(owner, slot);
-    if style == 1 {
-        return vector(key, 2);
+    match choice % 4 {
+        1 => vector(key, Kind::Common),
+        2 if draw(key, 4) % 4 == 0 => vector(key, Kind::AtTimesAwkward),
+        _ => grid_spot(key),
     }
-    if style == 2 {
-        if draw(key, 4) % 4 == 0 {
-            return vector(key, 3);
-        }
-    }
-    grid_spot(key)
 }
 
-// Few features, unknown ones among them; many; many and unknown ones; few known ones.
-fn feature(owner: u32, slot: u32, style: u32) -> PackedFeatureId {
-    let d = draw(owner, slot);
-    match style {
-        0 => PackedFeatureId(d % 5 / 2 * 0x4000_0001),
-        1 => PackedFeatureId(0xc000_0000 + d % 50),
-        2 => if d % 3 == 0 {
-            PackedFeatureId::UNKNOWN
-        } else {
-            PackedFeatureId(0x4000_0000 + d % 50)
-        },
-        _ => PackedFeatureId(1 + d % 5),
-    }
+fn feature(owner: u32, slot: u32, choice: u32) -> PackedFeatureId {
+    PackedFeatureId(feature_word(choice, draw(owner, slot)))
 }
 
 fn tangent(key: u32) -> Vec2 {
     Vec2 {
-        x: number(key, 4, 3),
-        y: number(key, 5, 3),
+        x: number(key, 4, Kind::AtTimesAwkward),
+        y: number(key, 5, Kind::AtTimesAwkward),
     }
 }
 
@@ -114,19 +89,16 @@ fn contact(owner: u32, slot: u32, features: u32, anchors: u32) -> ContactPoint {
         Vec3::ZERO,
         1.0,
     );
-    let t = tangent(key);
     p.normal_impulse = 9.0;
-    p.warm_start_normal_impulse = number(key, 3, 3);
-    p.warm_start_tangent_impulse = t;
+    p.warm_start_normal_impulse = number(key, 3, Kind::AtTimesAwkward);
+    p.warm_start_tangent_impulse = tangent(key);
     p.with_feature_ids(feature(key, 6, features), feature(key, 7, features))
 }
 
-// All places are filled. The styles are the case's.
-fn manifold(case: u32, slot: u32) -> Points
-    ensures { result.count ≤ stored_points }
-{
-    let features = draw(case, 1) % 4;
-    let anchors = draw(case, 2) % 4;
+// All places are filled. The choices of features and anchors are the case's.
+fn manifold(case: u32, slot: u32) -> Points {
+    let features = draw(case, 1);
+    let anchors = draw(case, 2);
     let key = draw(case, slot);
     Points {
         list: [
@@ -135,135 +107,75 @@ fn manifold(case: u32, slot: u32) -> Points
             contact(key, 3, features, anchors),
             contact(key, 4, features, anchors),
         ],
-        count: few_points(draw(key, 5)),
+        count: few_points(draw(key, 5)) as usize,
     }
 }
 
-// Only the two warm start impulses are taken.
-fn with_impulses(mut new: ContactPoint, old: ContactPoint) -> ContactPoint {
-    let tangent = old.warm_start_tangent_impulse;
-    new.warm_start_normal_impulse = old.warm_start_normal_impulse;
-    new.warm_start_tangent_impulse = tangent;
-    new
-}
-
-// The first old point that matches gives its impulses.
+// The first old point that matches gives its two warm start impulses.
 fn match_point(
     new: ContactPoint,
-    olds: Points,
+    olds: &[ContactPoint],
     by_place: bool,
     threshold_squared: f32,
-) -> ContactPoint
-    requires { olds.count ≤ stored_points }
-{
-    let list = olds.list;
-    let count = olds.count as usize;
-    let mut k = 0;
-    while k < count {
-        let old = list[k];
-        if matches(new, old, by_place, threshold_squared) {
-            return with_impulses(new, old);
+) -> ContactPoint {
+    for old in olds {
+        if matches(new, *old, by_place, threshold_squared) {
+            let mut matched = new;
+            matched.warm_start_normal_impulse = old.warm_start_normal_impulse;
+            matched.warm_start_tangent_impulse = old.warm_start_tangent_impulse;
+            return matched;
         }
-        k += 1;
     }
     new
 }
 
-// Each point, against the points of one old manifold.
-fn match_contacts(mut news: Points, olds: Points, by_place: bool, distance_threshold: f32) -> Points
-    requires { (news.count ≤ stored_points) × (olds.count ≤ stored_points) }
-    ensures { result.count ≤ stored_points }
-{
-    let threshold_squared = distance_threshold * distance_threshold;
-    let count = news.count as usize;
-    let mut list = news.list;
-    let mut j = 0;
-    while j < count {
-        let new = list[j];
-        let matched = match_point(new, olds, by_place, threshold_squared);
-        list[j] = matched;
-        j += 1;
+// Each point, against the points of the case's old manifold of a number.
+fn match_contacts(news: &mut Points, case: u32, slot: u32, by_place: bool) {
+    let distance = threshold(case);
+    let olds = manifold(case, slot);
+    for new in news.list.iter_mut().take(news.count) {
+        *new = match_point(*new, olds.as_slice(), by_place, distance * distance);
     }
-    news.list = list;
-    news
 }
 
 const MANIFOLD_COUNTS: u32 = MANIFOLDS + 1;
 
 // Against each of the case's old manifolds in turn: a later one overrides.
-fn match_all(case: u32, news: Points, by_place: bool) -> Points
-    requires { news.count ≤ stored_points }
-    ensures { result.count ≤ stored_points }
-{
-    let count = draw(case, 5) % MANIFOLD_COUNTS;
-    let mut m = news;
-    let mut i = 0;
-    while i < count {
-        let olds = manifold(case, 10 + i);
-        m = match_contacts(m, olds, by_place, threshold(case));
-        i += 1;
-    }
-    m
-}
-
-fn print_impulses<W: Write>(out: &mut W, p: ContactPoint) -> io::Result<()> {
-    print_float(out, p.warm_start_normal_impulse)?;
-    print_float(out, p.warm_start_tangent_impulse.x)?;
-    print_float(out, p.warm_start_tangent_impulse.y)
-}
-
-fn print_line<W: Write>(out: &mut W, name: &[u8], c: u32, m: Points) -> io::Result<()>
-    requires { m.count ≤ stored_points }
-{
-    print_name(out, name)?;
-    print_word(out, c)?;
-    let list = m.list;
-    let count = m.count as usize;
-    let mut j = 0;
-    while j < count {
-        let p = list[j];
-        print_impulses(out, p)?;
-        j += 1;
-    }
-    print_end(out)
-}
-
-fn print_case<W: Write>(out: &mut W, c: u32, by_place: bool) -> io::Result<()> {
-    let key = draw(c, 1);
-    let new = manifold(key, 4);
-    let matched = match_all(key, new, by_place);
-    if by_place {
-        print_line(out, b"match_place", c, matched)
-    } else {
-        print_line(out, b"match", c, matched)
+fn match_all(news: &mut Points, case: u32, by_place: bool) {
+    for i in 0..draw(case, 5) % MANIFOLD_COUNTS {
+        match_contacts(news, case, 10 + i, by_place);
     }
 }
 
-fn print_single_case<W: Write>(out: &mut W, c: u32, by_place: bool) -> io::Result<()> {
-    let key = draw(c, 1);
-    let new = manifold(key, 4);
-    let matched = match_contacts(new, manifold(key, 10), by_place, threshold(key));
-    if by_place {
-        print_line(out, b"match_one_place", c, matched)
-    } else {
-        print_line(out, b"match_one", c, matched)
+fn print_line<W: Write>(out: &mut W, name: &str, c: u32, news: &Points) -> io::Result<()> {
+    write!(out, "{name}\t{c:08X}")?;
+    for p in news.as_slice() {
+        let normal = bits_of(p.warm_start_normal_impulse);
+        let x = bits_of(p.warm_start_tangent_impulse.x);
+        let y = bits_of(p.warm_start_tangent_impulse.y);
+        write!(out, "\t{normal:08X}\t{x:08X}\t{y:08X}")?;
     }
+    writeln!(out)
 }
 
+// Those with as many old manifolds as a pair has, then those with one.
 pub fn print_cases<W: Write>(out: &mut W, by_place: bool) -> io::Result<()> {
-    let mut c = 0;
-    while c < 1000 {
-        print_case(out, c, by_place)?;
-        c += 1;
+    let (all, one) = if by_place {
+        ("match_place", "match_one_place")
+    } else {
+        ("match", "match_one")
+    };
+    for c in 0..1000 {
+        let case = draw(c, 1);
+        let mut news = manifold(case, 4);
+        match_all(&mut news, case, by_place);
+        print_line(out, all, c, &news)?;
     }
-    Ok(())
-}
-
-pub fn print_single_cases<W: Write>(out: &mut W, by_place: bool) -> io::Result<()> {
-    let mut c = 1000;
-    while c < 1300 {
-        print_single_case(out, c, by_place)?;
-        c += 1;
+    for c in 1000..1300 {
+        let case = draw(c, 1);
+        let mut news = manifold(case, 4);
+        match_contacts(&mut news, case, 10, by_place);
+        print_line(out, one, c, &news)?;
     }
     Ok(())
 }

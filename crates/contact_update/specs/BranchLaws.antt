@@ -1,7 +1,6 @@
 -- Which update each branch of the code makes. Assumes nothing.
-use Rattle.std.specs.Prelude.{◌≡◌, refl, ℕ, ◌+◌, ◌*◌, ◌<◌, Bool, true, false, cond, not, ◌&&◌, List, ltb, eqb}
+use Rattle.std.specs.Prelude.{◌≡◌, refl, ℕ, ◌+◌, ◌*◌, ◌<◌, Bool, true, false, cond, not, ◌&&◌, List, ltb, eqb, Option, None, Some}
 use Rattle.std.proofs.Common.{sym, ap, subst, ◌∙◌, true≢false, ltb-true}
-use Rattle.std.proofs.Math.Option.{Option, none, some}
 use Rattle.std.proofs.lemmas.Bool.{not-true, not-false}
 use Rattle.rules.specs.Inputs.{Settings, Collider, Body, ProposedManifold}
 use Rattle.rules.specs.Limits.{colliders, bodies}
@@ -11,10 +10,10 @@ use Rattle.rules.specs.Recycling.{recycles}
 use Rattle.rules.specs.Sides.{Side, overlap, interact, side_of}
 use Rattle.rules.specs.Surface.{or_else}
 use Rattle.rules.specs.Update.{Updated, body_of, renewed, overlapping, updated_between}
-use Rattle.words.specs.Words.{word_at}
+use Rattle.words.specs.Words.{word_at, is_mark, if_marked}
 use Rattle.layout.specs.Collider.{collider_size}
-use Rattle.collider.specs.Range.{is_mark, collider_fits, colliders_fit}
-use Rattle.collider.specs.Recorded.{number_if_at, present_collider, collider_at}
+use Rattle.collider.specs.Range.{collider_fits, colliders_fit}
+use Rattle.collider.specs.Recorded.{present_collider, collider_at}
 use Rattle.contact_range.specs.RangeLaws.{first_of_lem, rest_of}
 use Rattle.contact_update.specs.After.{after_words}
 use Rattle.contact_update.specs.Made.{skipped_update, disjoint_update, recycled_update, overlapped}
@@ -36,11 +35,11 @@ module _ (s : Settings) (answer : Bool) (proposal : List ProposedManifold) (c1 c
   unfolding overlapping
   overlapped_full e = rw e
 
-  pub overlapped_none : p.cache ≡ none → overlapped s answer proposal c1 c2 a b p ≡ renewed s answer proposal c1 c2 a b p
+  pub overlapped_none : p.cache ≡ None → overlapped s answer proposal c1 c2 a b p ≡ renewed s answer proposal c1 c2 a b p
   unfolding recycles
   overlapped_none e = overlapped_full (ap (recycles s p.flags.touching a b) e)
 
-  pub overlapped_recycled : (k : Cache) → p.cache ≡ some k → recycles s p.flags.touching a b p.cache ≡ true → overlapped s answer proposal c1 c2 a b p ≡ recycled_update a b k p
+  pub overlapped_recycled : (k : Cache) → p.cache ≡ Some k → recycles s p.flags.touching a b p.cache ≡ true → overlapped s answer proposal c1 c2 a b p ≡ recycled_update a b k p
   unfolding overlapping
   overlapped_recycled k c e = (λ i. overlapping s answer proposal c1 c2 a b p (e i) (c i))
 
@@ -50,25 +49,25 @@ unfolding after_words
 skipped_updates p w r h = record { words = refl; bit = h.bit; recycled = h.recycled; distance = h.distance }
 
 module _ (s : Settings) (body : ℕ → Option Body) (answer : Bool) (proposal : List ProposedManifold) (p : Pair) where
-  pub first_absent : (o q : Option Collider) → o ≡ none → updated_between s body answer proposal p o q ≡ skipped_update p
+  pub first_absent : (o q : Option Collider) → o ≡ None → updated_between s body answer proposal p o q ≡ skipped_update p
   unfolding updated_between
   first_absent o q e = rw e
 
-  pub second_absent : (c1 : Collider) (o q : Option Collider) → o ≡ some c1 → q ≡ none → updated_between s body answer proposal p o q ≡ skipped_update p
+  pub second_absent : (c1 : Collider) (o q : Option Collider) → o ≡ Some c1 → q ≡ None → updated_between s body answer proposal p o q ≡ skipped_update p
   unfolding updated_between
   second_absent c1 o q e f = rw (e, f)
 
   module _ (c1 c2 : Collider) where
-    pub between_disjoint : overlap c1 c2 p.speculative && interact c1 c2 ≡ false → updated_between s body answer proposal p (some c1) (some c2) ≡ disjoint_update p
+    pub between_disjoint : overlap c1 c2 p.speculative && interact c1 c2 ≡ false → updated_between s body answer proposal p (Some c1) (Some c2) ≡ disjoint_update p
     unfolding updated_between
     between_disjoint e = rw e
 
     pub between_overlapping : (a b : Side) → overlap c1 c2 p.speculative && interact c1 c2 ≡ true → a ≡ side_of c1 (body_of body c1.body) → b ≡ side_of c2 (body_of body c2.body)
-        → updated_between s body answer proposal p (some c1) (some c2) ≡ overlapped s answer proposal c1 c2 a b p
+        → updated_between s body answer proposal p (Some c1) (Some c2) ≡ overlapped s answer proposal c1 c2 a b p
     unfolding updated_between
     between_overlapping a b e f g = rw e (λ i. overlapped s answer proposal c1 c2 (sym f i) (sym g i) p)
 
-    pub both_present : (o q : Option Collider) → o ≡ some c1 → q ≡ some c2 → updated_between s body answer proposal p o q ≡ updated_between s body answer proposal p (some c1) (some c2)
+    pub both_present : (o q : Option Collider) → o ≡ Some c1 → q ≡ Some c2 → updated_between s body answer proposal p o q ≡ updated_between s body answer proposal p (Some c1) (Some c2)
     both_present o q e f = λ i. updated_between s body answer proposal p (e i) (f i)
 
 -- the two tests of rule 2
@@ -83,15 +82,15 @@ both_hold {b} {c} e n f m = (λ j. (sym e ∙ not-false b n) j && (sym f ∙ not
 
 -- ---- a collider's body has a number below the limit
 abbrev body_in : Option Collider → Option ℕ
-body_in none = none
-body_in (some c) = c.body
+body_in None = None
+body_in (Some c) = c.body
 
 abbrev given : Option ℕ → Bool
-given none = false
-given (some n) = true
+given None = false
+given (Some n) = true
 
-below_cases : (c : Collider) (i p j q rest : Bool) (x : ℕ) → c.body ≡ cond q (some x) none → i && cond p ((j && cond q (ltb x bodies) true) && rest) true ≡ true
-    → (m : ℕ) → body_in (cond p (some c) none) ≡ some m → m < bodies
+below_cases : (c : Collider) (i p j q rest : Bool) (x : ℕ) → c.body ≡ cond q (Some x) None → i && cond p ((j && cond q (ltb x bodies) true) && rest) true ≡ true
+    → (m : ℕ) → body_in (cond p (Some c) None) ≡ Some m → m < bodies
 below_cases c i false j q rest x e f m g = absurd (true≢false (sym (ap given g)))
 below_cases c i true j false rest x e f m g = absurd (true≢false (sym (ap given (sym e ∙ g))))
 below_cases c i true j true rest x e f m g =
@@ -99,8 +98,8 @@ below_cases c i true j true rest x e f m g =
     let same : x ≡ m = ap (λ (o : Option ℕ). or_else o 0) (sym e ∙ g) in
     subst (λ (y : ℕ). y < bodies) same (ltb-true x bodies t)
 
-pub body_below : (xs : List ℕ) (n : ℕ) (c : Collider) → colliders_fit xs ≡ true → n < colliders → collider_at xs n ≡ some c → BelowLimit c.body
-unfolding collider_at present_collider number_if_at colliders_fit collider_fits
+pub body_below : (xs : List ℕ) (n : ℕ) (c : Collider) → colliders_fit xs ≡ true → n < colliders → collider_at xs n ≡ Some c → BelowLimit c.body
+unfolding collider_at present_collider if_marked colliders_fit collider_fits
 body_below xs n c f l e =
     let at = n * collider_size in
     let fits = every_at (λ k. collider_fits xs (k * collider_size)) colliders n f l in

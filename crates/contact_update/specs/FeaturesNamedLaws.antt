@@ -1,10 +1,9 @@
 -- Where what is proposed leaves no feature at 0, the matching setting changes nothing: not a pair's update, and not a plain step. Assumes nothing.
-use Rattle.std.specs.Prelude.{◌≡◌, ℕ, zero, suc, ◌<◌, Bool, ◌&&◌, ltb, Float, length, get_or}
+use Rattle.std.specs.Prelude.{◌≡◌, ℕ, zero, suc, ◌<◌, Bool, ◌&&◌, ltb, Float, length, get_or, Option, None, Some}
 use Rattle.std.proofs.Math.Path.{refl, ap}
 use Rattle.std.proofs.Common.{sym, ◌∙◌, not-suc-le-zero, le_of_suc-le-suc, arith, ne_eqb}
 use Rattle.std.proofs.Math.Bool.{true, false, cond, not}
 use mathlib.Core.List.{List, [], ◌∷◌, map}
-use Rattle.std.proofs.Math.Option.{Option, none, some}
 use Rattle.std.proofs.Math.Dec.{leb}
 use Rattle.math.specs.Constants.{zero_f, tenth}
 use Rattle.math.specs.Floats.{◌⊕◌, ◌⊗◌}
@@ -128,7 +127,7 @@ module _ (place : Bool) (s : Settings) where
         manifolds = ms;
         count_change = change;
         speculative = zero_f;
-        cache = some (cache_of a b);
+        cache = Some (cache_of a b);
       } in
       let u : Updated = record { pair = q; way = full; bit = status_bit p.flags on touching change; max_contact_distance = f.margins ⊕ f.effective_speculative } in
       u) (matched_alike p.manifolds news (remaining_known s.step_time a b f p.flags.modify_contacts answer proposal h))
@@ -136,21 +135,21 @@ module _ (place : Bool) (s : Settings) where
   overlapping_alike : (answer : Bool) (proposal : List ProposedManifold) (c1 c2 : Collider) (a b : Side) (p : Pair) (again : Bool) (k : Option Cache) → Each NamedManifold proposal
       → overlapping (with_matching place s) answer proposal c1 c2 a b p again k ≡ overlapping s answer proposal c1 c2 a b p again k
   unfolding overlapping
-  overlapping_alike answer proposal c1 c2 a b p true (some k) h = refl
-  overlapping_alike answer proposal c1 c2 a b p true none h = renewed_alike answer proposal c1 c2 a b p h
+  overlapping_alike answer proposal c1 c2 a b p true (Some k) h = refl
+  overlapping_alike answer proposal c1 c2 a b p true None h = renewed_alike answer proposal c1 c2 a b p h
   overlapping_alike answer proposal c1 c2 a b p false k h = renewed_alike answer proposal c1 c2 a b p h
 
   recycles_alike : (touching : Bool) (a b : Side) (k : Option Cache) → recycles (with_matching place s) touching a b k ≡ recycles s touching a b k
   unfolding recycles tolerance_for scaled_tolerance scaled_recycle
-  recycles_alike touching a b none = refl
-  recycles_alike touching a b (some k) = refl
+  recycles_alike touching a b None = refl
+  recycles_alike touching a b (Some k) = refl
 
   between_alike : (body : ℕ → Option Body) (answer : Bool) (proposal : List ProposedManifold) (p : Pair) (c1 c2 : Option Collider) → Each NamedManifold proposal
       → updated_between (with_matching place s) body answer proposal p c1 c2 ≡ updated_between s body answer proposal p c1 c2
   unfolding updated_between
-  between_alike body answer proposal p none c2 h = refl
-  between_alike body answer proposal p (some c1) none h = refl
-  between_alike body answer proposal p (some c1) (some c2) h =
+  between_alike body answer proposal p None c2 h = refl
+  between_alike body answer proposal p (Some c1) None h = refl
+  between_alike body answer proposal p (Some c1) (Some c2) h =
       let a = side_of c1 (body_of body c1.body) in
       let b = side_of c2 (body_of body c2.body) in
       let apart : Updated = record { pair = disjoint p; way = aabbs_disjoint; bit = true; max_contact_distance = zero_f } in

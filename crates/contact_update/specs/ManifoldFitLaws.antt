@@ -10,7 +10,7 @@ use Rattle.math.specs.declared.vec.Vec3.{Vec3}
 use Rattle.rules.specs.Filtering.{moved_anchor, normal_speed_at, moved_point, stays, staying, no_point, prune_point, pruned, filtered, is_empty, without_empty}
 use Rattle.rules.specs.Inputs.{Settings, ProposedPoint, ProposedManifold}
 use Rattle.rules.specs.Limits.{pair_manifolds}
-use Rattle.rules.specs.Matching.{feature_rule, match_contacts, match_all}
+use Rattle.rules.specs.Matching.{feature_rule, match_all}
 use Rattle.rules.specs.Pruning.{kept}
 use Rattle.rule_laws.specs.PruningLaws.{kept_four}
 use Rattle.rules.specs.Records.{Point, Manifold, Cache}

@@ -1,11 +1,10 @@
 -- What an update writes in a contact's record is read back as the rules' pair, and leaves the record in range. Assumes nothing.
 use Prim.Native.Nat.{ℕ, zero, suc, ◌+◌, ◌*◌, ◌≤◌, ◌<◌, suc-le-suc}
 use Rattle.std.proofs.Common.{add-zero, zero-lt-suc, not-suc-le-zero, le_of_suc-le-suc, arith, subst, ◌∙◌, inl, inr, lit≤, lit<}
-use Rattle.std.specs.Prelude.{◌≡◌, ◌⊎◌, ◌≢◌, Bool, cond, ◌&&◌, T, ltb, Float, length, get_or}
+use Rattle.std.specs.Prelude.{◌≡◌, ◌⊎◌, ◌≢◌, Bool, cond, ◌&&◌, T, ltb, Float, length, get_or, Option, None, Some}
 use Rattle.std.proofs.Math.Path.{refl, sym, ap}
 use Rattle.std.proofs.Math.Bool.{true, false}
 use mathlib.Core.List.{List, [], ◌∷◌, ◌++◌, map}
-use Rattle.std.proofs.Math.Option.{Option, none, some}
 use Rattle.std.proofs.Math.Dec.{eqb}
 use Rattle.std.specs.Float.Ieee.{binary32, of_bits}
 use Rattle.math.specs.Constants.{zero_f}
@@ -173,7 +172,7 @@ unfolding pair_at flags_at disjoint after_words
 after_disjoint p w id size c =
     let ys = after_words aabbs_disjoint p w in
     let same : (j : ℕ) → j ≢ 10 → j ≢ 19 → word_at ys j ≡ word_at w j = disjoint_word p w in
-    let none : word_at ys 19 ≡ 0 = word_own (put w 10 (1 ∷ [])) 19 0 (omega (arith, length_put w 10 (1 ∷ []))) in
+    let None : word_at ys 19 ≡ 0 = word_own (put w 10 (1 ∷ [])) 19 0 (omega (arith, length_put w 10 (1 ∷ []))) in
     λ i. record {
       names = names_same id (stays w ys 0 6 (λ j a b. same j (λ e. omega arith) (λ e. omega arith))) i;
       edge = edge_same (stays w ys 7 2 (λ j a b. same j (λ e. omega arith) (λ e. omega arith))) i;
@@ -190,7 +189,7 @@ after_disjoint p w id size c =
       };
       manifolds = manifolds_same c (stays w ys 36 487 (λ j a b. same j (λ e. omega arith) (λ e. omega arith))) i;
       count_change = int_of (same 18 (λ e. omega arith) (λ e. omega arith) i);
-      speculative = of_bits binary32 (none i);
+      speculative = of_bits binary32 (None i);
       cache = cache_same (stays w ys 20 16 (λ j a b. same j (λ e. omega arith) (λ e. omega arith))) i;
     }
 
@@ -422,8 +421,8 @@ module _ (w : List ℕ) (id : ℕ) (size : length w ≡ contact_size) (c : Count
   read_overlapping : (s : Settings) (answer : Bool) (proposal : List ProposedManifold) (c1 c2 : Collider) (a b : Side) (t : Bool) (o : Option Cache)
       → Read (overlapping s answer proposal c1 c2 a b old t o)
   unfolding overlapping
-  read_overlapping s answer proposal c1 c2 a b true (some k) f = read_recycled a b k f
-  read_overlapping s answer proposal c1 c2 a b true none f = read_renewed s answer proposal c1 c2 a b f
+  read_overlapping s answer proposal c1 c2 a b true (Some k) f = read_recycled a b k f
+  read_overlapping s answer proposal c1 c2 a b true None f = read_renewed s answer proposal c1 c2 a b f
   read_overlapping s answer proposal c1 c2 a b false o f = read_renewed s answer proposal c1 c2 a b f
 
   read_either : (t : Bool) (u v : Updated) → Read u → Read v → Read (cond t u v)
@@ -433,9 +432,9 @@ module _ (w : List ℕ) (id : ℕ) (size : length w ≡ contact_size) (c : Count
   read_between : (s : Settings) (body : ℕ → Option Body) (answer : Bool) (proposal : List ProposedManifold) (o1 o2 : Option Collider)
       → Read (updated_between s body answer proposal old o1 o2)
   unfolding updated_between after_words
-  read_between s body answer proposal none o2 f = refl
-  read_between s body answer proposal (some c1) none f = refl
-  read_between s body answer proposal (some c1) (some c2) f =
+  read_between s body answer proposal None o2 f = refl
+  read_between s body answer proposal (Some c1) None f = refl
+  read_between s body answer proposal (Some c1) (Some c2) f =
       let a = side_of c1 (body_of body c1.body) in
       let b = side_of c2 (body_of body c2.body) in
       read_either (overlap c1 c2 old.speculative && interact c1 c2)
@@ -466,8 +465,8 @@ flags_below f k =
 
 cache_below : (o : Option Cache) → get_or (cache_words o) 0 0 < 2
 unfolding cache_words zeros
-cache_below none = lit< tt
-cache_below (some k) = lit< tt
+cache_below None = lit< tt
+cache_below (Some k) = lit< tt
 
 -- the marks are those of the edge, and then the pair's
 marks_split : (ys : List ℕ) → ((j : ℕ) → j < 2 → word_at ys (7 + j) < 2) → ((j : ℕ) → j < 9 → word_at ys (9 + j) < 2) → (k : ℕ) → k < 11 → word_at ys (7 + k) < 2

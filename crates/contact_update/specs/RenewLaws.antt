@@ -1,8 +1,7 @@
 -- A full update from what its functions give. Assumes nothing.
-use Rattle.std.specs.Prelude.{◌≡◌, refl, ℕ, zero, suc, ◌+◌, Bool, false, not, List, [], ◌∷◌, ◌++◌, eqb, Float, ◌-ℤ◌}
+use Rattle.std.specs.Prelude.{◌≡◌, refl, ℕ, zero, suc, ◌+◌, Bool, false, not, List, [], ◌∷◌, ◌++◌, eqb, Float, ◌-ℤ◌, Some}
 use Rattle.std.proofs.Math.Path.{sym, ap}
 use Rattle.std.proofs.Common.{◌∙◌, inr, arith, ne_eqb}
-use Rattle.std.proofs.Math.Option.{some}
 use Rattle.std.specs.Float.Ieee.{of_bits, to_bits}
 use Rattle.std.proofs.Math.IntN.{pos}
 use Rattle.std.proofs.Math.ListN.{length}
@@ -65,13 +64,13 @@ module _ (s : Settings) (answer : Bool) (proposal : List ProposedManifold) (c1 c
     unfolding change_of
     same_change = λ i. pos ((sym m.count ∙ ap length same_left) i) -ℤ pos ((eo ∙ sym (manifolds_length w contact_manifolds) ∙ ap length em) i)
 
-    pub full_updates : {after : List ℕ} → after ≡ put mid 9 (flags_words (flags_of r.flags) ++ r.change ∷ 0 ∷ cache_words (some (cached_of r.cache)))
+    pub full_updates : {after : List ℕ} → after ≡ put mid 9 (flags_words (flags_of r.flags) ++ r.change ∷ 0 ∷ cache_words (Some (cached_of r.cache)))
         → Updates (renewed s answer proposal c1 c2 a b p) w after (record { bit = r.bit; recycled = false; max_contact_distance = r.max_contact_distance })
     unfolding renewed after_words state_words of_bits to_bits
     full_updates e =
         record {
-          words = state_stored w (flags_of r.flags) r.change (cache_words (some (cached_of r.cache))) _ (length_cache (some (cached_of r.cache))) m.words e
-              ∙ (λ i. put w 9 (flags_words ((state.flags ∙ (λ j. renewed_flags (ef j) a.is_static b.is_static (enabled c1 c2 a b) (same_touching j))) i) ++ (state.change ∙ ap int_word same_change) i ∷ 0 ∷ cache_words (some (state.cache i)) ++ manifolds_words (matched s (em i) (same_left i))));
+          words = state_stored w (flags_of r.flags) r.change (cache_words (Some (cached_of r.cache))) _ (length_cache (Some (cached_of r.cache))) m.words e
+              ∙ (λ i. put w 9 (flags_words ((state.flags ∙ (λ j. renewed_flags (ef j) a.is_static b.is_static (enabled c1 c2 a b) (same_touching j))) i) ++ (state.change ∙ ap int_word same_change) i ∷ 0 ∷ cache_words (Some (state.cache i)) ++ manifolds_words (matched s (em i) (same_left i))));
           bit = state.bit ∙ (λ i. status_bit (ef i) (enabled c1 c2 a b) (same_touching i) (same_change i));
           recycled = refl;
           distance = state.distance ∙ (λ i. (same_surface i).margins ⊕ (same_surface i).effective_speculative);

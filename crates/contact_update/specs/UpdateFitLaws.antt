@@ -1,8 +1,7 @@
 -- What one pair's update stores: every float and the count change are values that 32 bits hold, and the lists are within the limits. Assumes nothing.
-use Rattle.std.specs.Prelude.{◌≡◌, ℕ, ◌+◌, ◌*◌, Bool, cond, ◌&&◌, List, eqb, Float, length}
+use Rattle.std.specs.Prelude.{◌≡◌, ℕ, ◌+◌, ◌*◌, Bool, cond, ◌&&◌, List, eqb, Float, length, Option, None, Some}
 use Rattle.std.proofs.Common.{subst, SFits}
 use Rattle.std.proofs.Math.Bool.{true, false}
-use Rattle.std.proofs.Math.Option.{Option, none, some}
 use Rattle.std.specs.Int.{w32}
 use Rattle.math.specs.Constants.{half}
 use Rattle.math.specs.Fit.{FitFloat, FitQuat}
@@ -14,13 +13,13 @@ use Rattle.rules.specs.Recycling.{recycles, recycled_manifold}
 use Rattle.rules.specs.Sides.{overlap, interact, Side, side_of}
 use Rattle.rules.specs.Surface.{or_else, first_given, ruled, combine, friction_of, restitution_of, surface_of}
 use Rattle.rules.specs.Update.{Updated, body_of, disjoint, recycled_pair, cache_of, change_of, renewed, overlapping, updated_between}
-use Rattle.words.specs.Words.{word_at}
+use Rattle.words.specs.Words.{word_at, mark_at, if_marked}
 use Rattle.words.specs.WordLaws.{read_fits, quat_fits}
 use Rattle.layout.specs.Body.{body_friction, body_position, body_size}
 use Rattle.layout.specs.Collider.{collider_friction, collider_restitution, collider_size}
 use Rattle.layout.specs.Contact.{contact_manifolds}
 use Rattle.layout.specs.Settings.{settings_friction, settings_restitution}
-use Rattle.collider.specs.Recorded.{mark_at, coefficient_at, coefficient_if_at, settings_of, present_collider, collider_at, present_body, body_at}
+use Rattle.collider.specs.Recorded.{coefficient_at, coefficient_if_at, settings_of, present_collider, collider_at, present_body, body_at}
 use Rattle.manifold_records.specs.Counts.{Counted}
 use Rattle.contact_records.specs.Fit.{FitManifolds, FitCache, FitCached, FitPair}
 use Rattle.contact_records.proofs.FitLaws.{pair_fits}
@@ -38,8 +37,8 @@ pub record FitSettings (s : Settings) : Type 0 where
 
 -- of the rest only this is stored: coefficients, where they are given, and the bodies' rotations
 abbrev FitGiven : Option Coefficient → Type 0
-FitGiven none = Unit {0}
-FitGiven (some c) = FitFloat c.value
+FitGiven None = Unit {0}
+FitGiven (Some c) = FitFloat c.value
 
 record FitCollider (c : Collider) : Type 0 where
   friction : FitGiven c.friction
@@ -50,12 +49,12 @@ record FitBody (b : Body) : Type 0 where
   rotation : FitQuat b.pose.rotation
 
 abbrev ColliderFits : Option Collider → Type 0
-ColliderFits none = Unit {0}
-ColliderFits (some c) = FitCollider c
+ColliderFits None = Unit {0}
+ColliderFits (Some c) = FitCollider c
 
 abbrev BodyFits : Option Body → Type 0
-BodyFits none = Unit {0}
-BodyFits (some b) = FitBody b
+BodyFits None = Unit {0}
+BodyFits (Some b) = FitBody b
 
 record FitSide (a : Side) : Type 0 where
   friction : FitGiven a.friction
@@ -63,12 +62,12 @@ record FitSide (a : Side) : Type 0 where
 
 side_fits : (c : Collider) (o : Option Body) → BodyFits o → FitSide (side_of c o)
 unfolding side_of
-side_fits c none h = record { friction = tt; rotation = identity_fits }
-side_fits c (some b) h = record { friction = h.friction; rotation = h.rotation }
+side_fits c None h = record { friction = tt; rotation = identity_fits }
+side_fits c (Some b) h = record { friction = h.friction; rotation = h.rotation }
 
 body_of_fits : (body : ℕ → Option Body) → ((n : ℕ) → BodyFits (body n)) → (o : Option ℕ) → BodyFits (body_of body o)
-body_of_fits body h none = tt
-body_of_fits body h (some n) = h n
+body_of_fits body h None = tt
+body_of_fits body h (Some n) = h n
 
 -- as words record them
 pub settings_fit_read : (xs : List ℕ) → FitSettings (settings_of xs)
@@ -77,10 +76,10 @@ settings_fit_read xs = record { friction = read_fits xs settings_friction; resti
 
 module _ (xs : List ℕ) where
   given_read : (at : ℕ) → FitGiven (coefficient_if_at xs at)
-  unfolding coefficient_if_at
+  unfolding if_marked
   given_read at = go (mark_at xs at)
     where
-      go : (t : Bool) → FitGiven (cond t (some (coefficient_at xs (at + 1))) none)
+      go : (t : Bool) → FitGiven (cond t (Some (coefficient_at xs (at + 1))) None)
       go true = read_fits xs (at + 1)
       go false = tt
 
@@ -88,7 +87,7 @@ module _ (xs : List ℕ) where
   unfolding collider_at present_collider
   collider_read n = go (mark_at xs (n * collider_size))
     where
-      go : (t : Bool) → ColliderFits (cond t (some (present_collider xs (n * collider_size))) none)
+      go : (t : Bool) → ColliderFits (cond t (Some (present_collider xs (n * collider_size))) None)
       go true = let at = n * collider_size in record { friction = given_read (at + collider_friction); restitution = given_read (at + collider_restitution) }
       go false = tt
 
@@ -96,18 +95,18 @@ module _ (xs : List ℕ) where
   unfolding body_at present_body
   body_read n = go (mark_at xs (n * body_size))
     where
-      go : (t : Bool) → BodyFits (cond t (some (present_body xs (n * body_size))) none)
+      go : (t : Bool) → BodyFits (cond t (Some (present_body xs (n * body_size))) None)
       go true = let at = n * body_size in record { friction = given_read (at + body_friction); rotation = quat_fits xs (at + body_position + 3) }
       go false = tt
 
 -- ---- rule 7
 first_given_fits : (o p : Option Coefficient) → FitGiven o → FitGiven p → FitGiven (first_given o p)
-first_given_fits none p h k = k
-first_given_fits (some a) p h k = h
+first_given_fits None p h k = k
+first_given_fits (Some a) p h k = h
 
 else_fits : (o : Option Coefficient) (d : Coefficient) → FitGiven o → FitFloat d.value → FitFloat (or_else o d).value
-else_fits none d h k = k
-else_fits (some a) d h k = h
+else_fits None d h k = k
+else_fits (Some a) d h k = h
 
 ruled_fits : (n : ℕ) (a b : Float) → FitFloat a → FitFloat b → FitFloat (ruled n a b)
 unfolding ruled
@@ -140,7 +139,7 @@ surface_fits s c1 c2 a b given hs h1 h2 ha hb =
     }
 
 -- ---- rule 6
-cache_of_fits : (a b : Side) → FitSide a → FitSide b → FitCached (some (cache_of a b))
+cache_of_fits : (a b : Side) → FitSide a → FitSide b → FitCached (Some (cache_of a b))
 cache_of_fits a b ha hb = record { each = λ c e. subst FitCache (let q : cache_of a b ≡ c = cc in q) here }
   where
     here : FitCache (cache_of a b)
@@ -192,16 +191,16 @@ module _ (s : Settings) (answer : Bool) (proposal : List ProposedManifold) (hs :
 
     overlapping_fits : (t : Bool) (o : Option Cache) → FitPair (overlapping s answer proposal c1 c2 a b p t o).pair
     unfolding overlapping
-    overlapping_fits true (some k) = recycled_fits a b k p h
-    overlapping_fits true none = renewed_fits
+    overlapping_fits true (Some k) = recycled_fits a b k p h
+    overlapping_fits true None = renewed_fits
     overlapping_fits false o = renewed_fits
 
   between_fits : (body : ℕ → Option Body) (p : Pair) (o1 o2 : Option Collider) → ((n : ℕ) → BodyFits (body n)) → FitPair p → ColliderFits o1 → ColliderFits o2
       → FitPair (updated_between s body answer proposal p o1 o2).pair
   unfolding updated_between
-  between_fits body p none o2 hb h h1 h2 = h
-  between_fits body p (some c1) none hb h h1 h2 = h
-  between_fits body p (some c1) (some c2) hb h h1 h2 =
+  between_fits body p None o2 hb h h1 h2 = h
+  between_fits body p (Some c1) None hb h h1 h2 = h
+  between_fits body p (Some c1) (Some c2) hb h h1 h2 =
       let a = side_of c1 (body_of body c1.body) in
       let b = side_of c2 (body_of body c2.body) in
       let fa : FitSide a = side_fits c1 (body_of body c1.body) (body_of_fits body hb c1.body) in

@@ -1,9 +1,8 @@
 -- Laws of one pair's update, and of one contact's in the graph. Assumes nothing.
-use Rattle.std.specs.Prelude.{◌≡◌, ℕ, Bool, ◌&&◌, List}
+use Rattle.std.specs.Prelude.{◌≡◌, ℕ, Bool, ◌&&◌, List, Option, None, Some}
 use Rattle.std.proofs.Math.Path.{refl, sym, ap}
 use Rattle.std.proofs.Common.{◌∙◌}
 use Rattle.std.proofs.Math.Bool.{true, false, cond}
-use Rattle.std.proofs.Math.Option.{Option, none, some}
 use Rattle.math.specs.Constants.{zero_f}
 use Rattle.rows.specs.Rows.{part}
 use Rattle.rules.specs.Inputs.{Coefficient, Settings, Collider, Body, ProposedManifold}
@@ -25,11 +24,11 @@ use Rattle.contact_update.specs.RecordReadLaws.{counted_of}
 use Rattle.contact_update.specs.UpdateFitLaws.{FitSettings, update_fits}
 
 -- ---- rule 7: friction falls back to the body, restitution does not
-pub friction_falls_back : (s : Settings) (c : Collider) (a : Side) (f : Coefficient) → c.friction ≡ none → a.friction ≡ some f → friction_of s c a ≡ f
+pub friction_falls_back : (s : Settings) (c : Collider) (a : Side) (f : Coefficient) → c.friction ≡ None → a.friction ≡ Some f → friction_of s c a ≡ f
 unfolding friction_of
 friction_falls_back s c a f e g = rw (e, g)
 
-pub restitution_does_not : (s : Settings) (c : Collider) → c.restitution ≡ none → restitution_of s c ≡ s.default_restitution
+pub restitution_does_not : (s : Settings) (c : Collider) → c.restitution ≡ None → restitution_of s c ≡ s.default_restitution
 unfolding restitution_of
 restitution_does_not s c e = rw e
 
@@ -41,15 +40,15 @@ EndedEarly u = (u.way ≡ full → ⊥) → u.max_contact_distance ≡ zero_f
 module _ (s : Settings) (answer : Bool) (proposal : List ProposedManifold) where
   overlapping_distance : (c1 c2 : Collider) (a b : Side) (p : Pair) (t : Bool) (k : Option Cache) → EndedEarly (overlapping s answer proposal c1 c2 a b p t k)
   unfolding overlapping renewed
-  overlapping_distance c1 c2 a b p true none n = absurd (n refl)
-  overlapping_distance c1 c2 a b p true (some k) n = refl
+  overlapping_distance c1 c2 a b p true None n = absurd (n refl)
+  overlapping_distance c1 c2 a b p true (Some k) n = refl
   overlapping_distance c1 c2 a b p false k n = absurd (n refl)
 
   pub distance_zero : (body : ℕ → Option Body) (p : Pair) (o q : Option Collider) → EndedEarly (updated_between s body answer proposal p o q)
   unfolding updated_between
-  distance_zero body p none q n = refl
-  distance_zero body p (some c1) none n = refl
-  distance_zero body p (some c1) (some c2) n = go (overlap c1 c2 p.speculative && interact c1 c2) n
+  distance_zero body p None q n = refl
+  distance_zero body p (Some c1) None n = refl
+  distance_zero body p (Some c1) (Some c2) n = go (overlap c1 c2 p.speculative && interact c1 c2) n
     where
       go : (t : Bool) → EndedEarly (cond t
           (overlapping s answer proposal c1 c2 (side_of c1 (body_of body c1.body)) (side_of c2 (body_of body c2.body)) p
@@ -66,23 +65,23 @@ module _ (s : Settings) (answer : Bool) (proposal : List ProposedManifold) (c1 c
   overlapping_counted : (a b : Side) (touching : Bool) (k : Option Cache)
       → counted (overlapping s answer proposal c1 c2 a b p (recycles s touching a b k) k) ≡ cond (recycles s touching a b k) 1 0
   unfolding overlapping renewed recycles
-  overlapping_counted a b touching none = refl
-  overlapping_counted a b touching (some k) = go (recycles s touching a b (some k))
+  overlapping_counted a b touching None = refl
+  overlapping_counted a b touching (Some k) = go (recycles s touching a b (Some k))
     where
-      go : (t : Bool) → counted (overlapping s answer proposal c1 c2 a b p t (some k)) ≡ cond t 1 0
+      go : (t : Bool) → counted (overlapping s answer proposal c1 c2 a b p t (Some k)) ≡ cond t 1 0
       go true = refl
       go false = refl
 
   module _ (body : ℕ → Option Body) where
     -- a pair that goes on to rule 4 counts once where that recycles it
     pub counts_once : overlap c1 c2 p.speculative && interact c1 c2 ≡ true
-        → counted (updated_between s body answer proposal p (some c1) (some c2))
+        → counted (updated_between s body answer proposal p (Some c1) (Some c2))
         ≡ cond (recycles s p.flags.touching (side_of c1 (body_of body c1.body)) (side_of c2 (body_of body c2.body)) p.cache) 1 0
     unfolding updated_between
     counts_once e = rw e (overlapping_counted (side_of c1 (body_of body c1.body)) (side_of c2 (body_of body c2.body)) p.flags.touching p.cache)
 
     -- and no other counts
-    pub counts_none : overlap c1 c2 p.speculative && interact c1 c2 ≡ false → counted (updated_between s body answer proposal p (some c1) (some c2)) ≡ 0
+    pub counts_none : overlap c1 c2 p.speculative && interact c1 c2 ≡ false → counted (updated_between s body answer proposal p (Some c1) (Some c2)) ≡ 0
     unfolding updated_between
     counts_none e = rw e
 

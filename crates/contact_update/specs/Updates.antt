@@ -1,6 +1,5 @@
 -- What the functions of an update promise of a contact's words. Definitions only.
-use Rattle.std.specs.Prelude.{ℕ, ◌≤◌, ◌<◌, ◌≡◌, true, false, not, List, map, eqb, pos, ◌-ℤ◌, length}
-use Rattle.std.proofs.Math.Option.{Option, some}
+use Rattle.std.specs.Prelude.{ℕ, ◌≤◌, ◌<◌, ◌≡◌, true, false, not, List, map, eqb, pos, ◌-ℤ◌, length, Option, Some}
 use Rattle.math.specs.Constants.{zero_f}
 use Rattle.math.specs.Floats.{◌⊕◌}
 use Rattle.math.specs.declared.vec.Vec3.{Vec3}
@@ -20,6 +19,7 @@ use Rattle.layout.specs.Proposal.{proposal_size}
 use Rattle.collider.specs.Range.{colliders_fit}
 use Rattle.contact_records.specs.Recorded.{pair_at}
 use Rattle.contact_records.specs.StateViews.{flags_of, cached_of}
+use Rattle.manifold_records.specs.Counts.{Counted}
 use Rattle.manifold_records.specs.Written.{manifolds_words}
 use Rattle.contact_records.specs.Written.{int_word}
 use Rattle.contact_range.specs.RangeLaws.{Fitting}
@@ -40,9 +40,16 @@ pub record Ready (colliders bodies proposal w : List ℕ) : Type 0 where
   pub proposed : Proposed proposal 0
   pub record_fits : Fitting w 0
 
+-- the same of a record and its proposal alone, once the colliders are loaded: what rules 2 to 12 ask of them
+pub record WordsReady (proposal w : List ℕ) : Type 0 where
+  pub record_words : length w ≡ contact_size
+  pub counted : Counted w contact_manifolds
+  pub proposal_words : length proposal ≡ proposal_size
+  pub proposed : Proposed proposal 0
+
 -- a body that is named has a number below the limit
 pub record BelowLimit (named : Option ℕ) : Type 0 where
-  pub below : (n : ℕ) → named ≡ some n → n < bodies
+  pub below : (n : ℕ) → named ≡ Some n → n < bodies
 
 -- The promise: the words and what is answered are the update's.
 pub record Updates (u : Updated) (before after : List ℕ) (r : Outcome) : Type 0 where

@@ -4,34 +4,27 @@ ghost use Rattle.data_structures.specs.BitVec.{marked};
 ghost use Rattle.collider.specs.Views.{plain_settings};
 ghost use Rattle.contact_update.specs.Contact.{ContactReady, OwnUpdated, ContactUpdated};
 
+use crate::input::UpdateInput;
 use crate::record::{Outcome, update_record};
-use collider::settings::Settings;
 use contact_range::places::contact_at;
 use contact_types::contact_id::ContactId;
 use data_structures::bit_vec::set;
 use layout::contact::CONTACT_SIZE;
 use layout::proposal::PROPOSAL_SIZE;
-use words::row::store_float;
+use words::store::store;
 
 // The contact's record and its proposal are lent on, and no other's.
-fn update_own(
-    s: Settings,
-    colliders: &[u32],
-    bodies: &[u32],
-    proposals: &[u32],
-    graph: &mut [u32],
-    id: ContactId,
-) -> Outcome
-    requires { ContactReady colliders.now bodies.now proposals.now graph.old id.0 }
-    ensures { OwnUpdated (plain_settings s) colliders.now bodies.now proposals.now id.0 graph.old graph.new result }
+fn update_own(input: &UpdateInput<'_>, graph: &mut [u32], id: ContactId) -> Outcome
+    requires { ContactReady input.now.colliders.now input.now.bodies.now input.now.proposals.now graph.old id.0 }
+    ensures { OwnUpdated (plain_settings input.now.settings) input.now.colliders.now input.now.bodies.now input.now.proposals.now id.0 graph.old graph.new result }
 {
     let at = contact_at(graph, id);
     let end = at + CONTACT_SIZE;
     let from = id.0 as usize * PROPOSAL_SIZE;
     let to = from + PROPOSAL_SIZE;
-    let proposal = &proposals[from..to];
+    let proposal = &input.proposals[from..to];
     let own = &mut graph[at..end];
-    update_record(s, colliders, bodies, proposal, own)
+    update_record(input.settings, input.colliders, input.bodies, proposal, own)
 }
 
 fn set_if(bits: &mut [u64], index: usize, bit: bool)
@@ -45,20 +38,17 @@ fn set_if(bits: &mut [u64], index: usize, bit: bool)
 
 // Answers whether the contact was recycled.
 pub fn update_contact(
-    s: Settings,
-    colliders: &[u32],
-    bodies: &[u32],
-    proposals: &[u32],
+    input: &UpdateInput<'_>,
     graph: &mut [u32],
     bits: &mut [u64],
     distances: &mut [u32],
     id: ContactId,
 ) -> bool
-    requires { ContactReady colliders.now bodies.now proposals.now graph.old id.0 × (id.0 < 64 * length bits.old) × (id.0 < length distances.old) }
-    ensures { ContactUpdated (plain_settings s) colliders.now bodies.now proposals.now id.0 graph.old graph.new bits.old bits.new distances.old distances.new result }
+    requires { ContactReady input.now.colliders.now input.now.bodies.now input.now.proposals.now graph.old id.0 × (id.0 < 64 * length bits.old) × (id.0 < length distances.old) }
+    ensures { ContactUpdated (plain_settings input.now.settings) input.now.colliders.now input.now.bodies.now input.now.proposals.now id.0 graph.old graph.new bits.old bits.new distances.old distances.new result }
 {
-    let o = update_own(s, colliders, bodies, proposals, graph, id);
+    let o = update_own(input, graph, id);
     set_if(bits, id.0 as usize, o.bit);
-    store_float(distances, id.0 as usize, o.max_contact_distance);
+    store(distances, id.0 as usize, o.max_contact_distance);
     o.recycled
 }

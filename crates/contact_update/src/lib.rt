@@ -2,6 +2,7 @@
 #![tactic(auto)]
 
 pub mod contact;
+pub mod input;
 pub mod record;
 pub mod recycled;
 pub mod renewal;

@@ -1,37 +1,34 @@
 // One contact's words, updated: the twelve rules in their order. From `update_contacts` of avian's narrow_phase/system_param.rs.
-ghost use Rattle.std.specs.Prelude.{◌≡◌, length};
-ghost use Rattle.std.proofs.Math.Option.{some};
+ghost use Rattle.std.specs.Prelude.{◌≡◌, length, Some};
 ghost use Rattle.rules.specs.Sides.{side_of};
 ghost use Rattle.rules.specs.Update.{body_of, renewed, updated_between};
 ghost use Rattle.layout.specs.Body.{bodies_length};
 ghost use Rattle.layout.specs.Contact.{contact_manifolds, contact_size};
-ghost use Rattle.layout.specs.Proposal.{proposal_size};
 ghost use Rattle.collider.specs.Recorded.{body_at};
-ghost use Rattle.collider.specs.Views.{plain_number_if, plain_settings, plain_collider, plain_body_if, plain_side};
+ghost use Rattle.collider.specs.Views.{plain_settings, plain_collider, plain_body_if, plain_side};
 ghost use Rattle.manifold_records.specs.Counts.{Counted};
 ghost use Rattle.contact_records.specs.StateViews.{cached_of};
-ghost use Rattle.proposals.specs.Range.{Proposed};
 ghost use Rattle.proposals.specs.Recorded.{proposal_at, hook_at};
-ghost use Rattle.contact_update.specs.Updates.{Ready, BelowLimit, UpdatesAs, SkippedIs, RecordUpdates};
+ghost use Rattle.contact_update.specs.Updates.{Ready, WordsReady, BelowLimit, UpdatesAs, SkippedIs, RecordUpdates};
 ghost use Rattle.contact_update.specs.Made.{disjoint_update, recycled_update, overlapped};
 
 use crate::recycled::recycle_words;
 use crate::renewal::{renew, renew_manifolds, store_renewal};
-use collider::body_record::{FoundBody, load_body};
-use collider::collider_record::{ColliderRecord, FoundCollider, load_collider};
-use collider::optional::OptionalBody;
+use collider::body_record::{BodyRecord, load_body};
+use collider::collider_record::{ColliderRecord, load_collider};
 use collider::overlap::{layers_interact, overlap};
 use collider::settings::Settings;
 use collider::side::{Side, side_of};
 use contact_parameters::recycling::recycle;
 use contact_parameters::surface::surface_of;
-use contact_records::state::{RecyclingCache, load_cache, load_flags};
+use contact_records::state::{load_cache, load_flags};
 use contact_types::contact_manifold::ContactRecyclingCache;
 use layout::contact::{
     CONTACT_CACHE, CONTACT_COLLIDER1, CONTACT_COLLIDER2, CONTACT_FLAGS, CONTACT_MANIFOLDS,
     CONTACT_SPECULATIVE_DISTANCE, PAIR_DISJOINT_AABB,
 };
-use words::row::{load_float, load_word, store_word};
+use words::load::load;
+use words::store::store;
 
 // What an update answers: its status bit, whether the pair was recycled, and the reported contact distance.
 #[derive(Clone, Copy)]
@@ -47,8 +44,8 @@ fn update_disjoint(words: &mut [u32]) -> Outcome
     requires { length words.old ≡ contact_size }
     ensures { UpdatesAs disjoint_update words.old words.new result }
 {
-    store_word(words, PAIR_DISJOINT_AABB, 1);
-    store_word(words, CONTACT_SPECULATIVE_DISTANCE, 0);
+    store(words, PAIR_DISJOINT_AABB, 1);
+    store(words, CONTACT_SPECULATIVE_DISTANCE, 0);
     Outcome {
         bit: true,
         recycled: false,
@@ -79,18 +76,18 @@ fn update_full(
     proposal: &[u32],
     words: &mut [u32],
 ) -> Outcome
-    requires { (length words.old ≡ contact_size) × Counted words.old contact_manifolds × (length proposal.now ≡ proposal_size) × Proposed proposal.now 0 }
+    requires { WordsReady proposal.now words.old }
     ensures { UpdatesAs (renewed (plain_settings s) (hook_at proposal.now 0) (proposal_at proposal.now 0) (plain_collider c1) (plain_collider c2) (plain_side a) (plain_side b)) words.old words.new result }
 {
     let flags = load_flags(words, CONTACT_FLAGS);
-    let old = load_word(words, CONTACT_MANIFOLDS);
+    let old = load::<u32>(words, CONTACT_MANIFOLDS);
     let f = surface_of(
         s,
         c1,
         c2,
         a,
         b,
-        load_float(words, CONTACT_SPECULATIVE_DISTANCE),
+        load::<f32>(words, CONTACT_SPECULATIVE_DISTANCE),
     );
     let new = renew_manifolds(words, s, a, b, f, flags.modify_contacts, proposal);
     let r = renew(c1, c2, a, b, f, flags, old, new);
@@ -112,7 +109,7 @@ fn update_overlapping(
     proposal: &[u32],
     words: &mut [u32],
 ) -> Outcome
-    requires { (length words.old ≡ contact_size) × Counted words.old contact_manifolds × (length proposal.now ≡ proposal_size) × Proposed proposal.now 0 }
+    requires { WordsReady proposal.now words.old }
     ensures { UpdatesAs (overlapped (plain_settings s) (hook_at proposal.now 0) (proposal_at proposal.now 0) (plain_collider c1) (plain_collider c2) (plain_side a) (plain_side b)) words.old words.new result }
 {
     let flags = load_flags(words, CONTACT_FLAGS);
@@ -121,20 +118,20 @@ fn update_overlapping(
         return update_full(s, c1, c2, a, b, proposal, words);
     }
     // There is a cache: without one, recycling is abandoned.
-    let RecyclingCache::Cached(k) = cache else {
+    let Some(k) = cache else {
         return update_full(s, c1, c2, a, b, proposal, words);
     };
     update_recycled(words, a, b, k)
 }
 
 // The body that a collider names.
-fn named_body(bodies: &[u32], named: OptionalBody) -> FoundBody
-    requires { (length bodies.now ≡ bodies_length) × BelowLimit (plain_number_if named) }
-    ensures { plain_body_if result ≡ body_of (body_at bodies.now) (plain_number_if named) }
+fn named_body(bodies: &[u32], named: Option<u32>) -> Option<BodyRecord>
+    requires { (length bodies.now ≡ bodies_length) × BelowLimit named }
+    ensures { plain_body_if result ≡ body_of (body_at bodies.now) named }
 {
     match named {
-        OptionalBody::Named(n) => load_body(bodies, n),
-        OptionalBody::Unnamed => FoundBody::Absent,
+        Some(n) => load_body(bodies, n),
+        None => None,
     }
 }
 
@@ -156,10 +153,10 @@ fn update_between(
     proposal: &[u32],
     words: &mut [u32],
 ) -> Outcome
-    requires { BelowLimit (plain_collider c1).body × BelowLimit (plain_collider c2).body × (length bodies.now ≡ bodies_length) × (length words.old ≡ contact_size) × Counted words.old contact_manifolds × (length proposal.now ≡ proposal_size) × Proposed proposal.now 0 }
-    ensures { UpdatesAs (λ p. updated_between (plain_settings s) (body_at bodies.now) (hook_at proposal.now 0) (proposal_at proposal.now 0) p (some (plain_collider c1)) (some (plain_collider c2))) words.old words.new result }
+    requires { BelowLimit (plain_collider c1).body × BelowLimit (plain_collider c2).body × (length bodies.now ≡ bodies_length) × WordsReady proposal.now words.old }
+    ensures { UpdatesAs (λ p. updated_between (plain_settings s) (body_at bodies.now) (hook_at proposal.now 0) (proposal_at proposal.now 0) p (Some (plain_collider c1)) (Some (plain_collider c2))) words.old words.new result }
 {
-    let given = load_float(words, CONTACT_SPECULATIVE_DISTANCE);
+    let given = load::<f32>(words, CONTACT_SPECULATIVE_DISTANCE);
     if !overlap(c1, c2, given) {
         return update_disjoint(words);
     }
@@ -182,6 +179,7 @@ fn skipped() -> Outcome
     }
 }
 
+// Not lent an `UpdateInput`: of the proposals it reads the contact's own alone.
 pub fn update_record(
     s: Settings,
     colliders: &[u32],
@@ -192,12 +190,12 @@ pub fn update_record(
     requires { Ready colliders.now bodies.now proposal.now words.old }
     ensures { RecordUpdates (plain_settings s) colliders.now bodies.now proposal.now words.old words.new result }
 {
-    let n1 = load_word(words, CONTACT_COLLIDER1);
-    let n2 = load_word(words, CONTACT_COLLIDER2);
-    let FoundCollider::Present(c1) = load_collider(colliders, n1) else {
+    let n1 = load::<u32>(words, CONTACT_COLLIDER1);
+    let n2 = load::<u32>(words, CONTACT_COLLIDER2);
+    let Some(c1) = load_collider(colliders, n1) else {
         return skipped();
     };
-    let FoundCollider::Present(c2) = load_collider(colliders, n2) else {
+    let Some(c2) = load_collider(colliders, n2) else {
         return skipped();
     };
     update_between(s, c1, c2, bodies, proposal, words)

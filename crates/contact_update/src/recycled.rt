@@ -18,22 +18,28 @@ ghost use Rattle.contact_update.specs.Updates.{point_after, manifold_after};
 use collider::side::Side;
 use contact_parameters::recycling::{Motion, motion_of};
 use contact_types::contact_manifold::ContactRecyclingCache;
-use layout::contact::{CONTACT_MANIFOLDS, CONTACT_SPECULATIVE_DISTANCE, PAIR_STATIC1};
+use layout::contact::{
+    CONTACT_FIRST_MANIFOLD, CONTACT_MANIFOLDS, CONTACT_SPECULATIVE_DISTANCE, PAIR_STATIC1,
+};
 use layout::manifold::{MANIFOLD_NORMAL, MANIFOLD_POINTS, MANIFOLD_SIZE};
 use layout::point::{POINT_ANCHOR2, POINT_BASE_PENETRATION, POINT_PENETRATION, POINT_SIZE};
 use math::vec::Vec3;
-use words::row::{load_float, load_word, mark_word, store_float, store_word, store_words};
-use words::vec::load_vec3;
+use words::load::load;
+use words::row::{mark_word, store_words};
+use words::store::store;
 
 // What the penetration of the point at a place becomes: the anchors stay, and the separation follows the bodies.
+#[tactic(auto, unfolding(manifold_records::specs::Recorded::point_at, contact_parameters::specs::Motions::penetration_after))]
 fn penetration_at(words: &[u32], at: usize, normal: Vec3, motion: Motion) -> f32
     requires { at + point_size ≤ length words.now }
     ensures { result ≡ penetration_after motion normal (point_at words.now at) }
 {
-    let r1 = motion.turn1.mul_vec3(load_vec3(words, at));
-    let r2 = motion.turn2.mul_vec3(load_vec3(words, at + POINT_ANCHOR2));
-    let delta = motion.between.add(r2.sub(r1));
-    load_float(words, at + POINT_BASE_PENETRATION) - delta.dot(normal)
+    let r1 = motion.turn1.mul_vec3(load::<Vec3>(words, at));
+    let r2 = motion
+        .turn2
+        .mul_vec3(load::<Vec3>(words, at + POINT_ANCHOR2));
+    let delta = motion.between + (r2 - r1);
+    load::<f32>(words, at + POINT_BASE_PENETRATION) - delta.dot(normal)
 }
 
 // The penetrations of n points, which stand from a place on. Each is read where it stands: what was written stands before it.
@@ -41,11 +47,9 @@ fn recycle_points(words: &mut [u32], at: usize, n: usize, normal: Vec3, motion: 
     requires { (n ≤ stored_points) × (at + points_size ≤ length words.old) }
     ensures { words.new ≡ points_put (map (point_after motion normal) (points_at words.old at n)) at words.old }
 {
-    let mut k = 0;
-    while k < n {
+    for k in 0..n {
         let penetration = penetration_at(words, at + k * POINT_SIZE, normal, motion);
-        store_float(words, at + k * POINT_SIZE + POINT_PENETRATION, penetration);
-        k += 1;
+        store(words, at + k * POINT_SIZE + POINT_PENETRATION, penetration);
     }
 }
 
@@ -54,14 +58,12 @@ fn recycle_manifolds(words: &mut [u32], motion: Motion)
     requires { (length words.old ≡ contact_size) × Counted words.old contact_manifolds }
     ensures { words.new ≡ manifolds_put (map (manifold_after motion) (manifolds_at words.old contact_manifolds)) (contact_manifolds + 1) words.old }
 {
-    let n = load_word(words, CONTACT_MANIFOLDS) as usize;
-    let mut k = 0;
-    while k < n {
-        let at = CONTACT_MANIFOLDS + 1 + k * MANIFOLD_SIZE;
-        let count = load_word(words, at) as usize;
-        let normal = load_vec3(words, at + MANIFOLD_NORMAL);
+    let n = load::<u32>(words, CONTACT_MANIFOLDS) as usize;
+    for k in 0..n {
+        let at = CONTACT_FIRST_MANIFOLD + k * MANIFOLD_SIZE;
+        let count = load::<u32>(words, at) as usize;
+        let normal = load::<Vec3>(words, at + MANIFOLD_NORMAL);
         recycle_points(words, at + MANIFOLD_POINTS, count, normal, motion);
-        k += 1;
     }
 }
 
@@ -74,5 +76,5 @@ pub fn recycle_words(words: &mut [u32], a: Side, b: Side, cache: ContactRecyclin
     recycle_manifolds(words, motion);
     let marks = [mark_word(a.is_static), mark_word(b.is_static)];
     store_words(words, PAIR_STATIC1, &marks);
-    store_word(words, CONTACT_SPECULATIVE_DISTANCE, 0);
+    store(words, CONTACT_SPECULATIVE_DISTANCE, 0);
 }

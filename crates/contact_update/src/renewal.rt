@@ -1,5 +1,5 @@
 // A full update of a pair: rules 6 to 12. Its manifolds are made and matched in its words, where they stand: passed by value they would be copied.
-ghost use Rattle.std.specs.Prelude.{◌≡◌, cond, ◌&&◌, [], ◌∷◌, ◌++◌, ◌+◌, ◌≤◌, leb, length};
+ghost use Rattle.std.specs.Prelude.{◌≡◌, cond, ◌&&◌, [], ◌∷◌, ◌++◌, ◌+◌, ◌≤◌, leb, length, Some};
 ghost use Rattle.rows.specs.Rows.{put};
 ghost use Rattle.rules.specs.Update.{remaining};
 ghost use Rattle.collider.specs.Views.{plain_settings, plain_collider, plain_side};
@@ -11,7 +11,6 @@ ghost use Rattle.layout.specs.Proposal.{proposal_size};
 ghost use Rattle.rules.specs.Limits.{pair_manifolds};
 ghost use Rattle.contact_records.specs.StateViews.{flags_of, cached_of};
 ghost use Rattle.contact_records.specs.Written.{flags_words, cache_words};
-ghost use Rattle.std.proofs.Math.Option.{some};
 ghost use Rattle.contact_parameters.specs.Views.{plain_surface};
 ghost use Rattle.proposals.specs.Range.{Proposed};
 ghost use Rattle.proposals.specs.Recorded.{proposal_at, hook_at};
@@ -20,22 +19,23 @@ ghost use Rattle.contact_update.specs.Updates.{ManifoldsRenewed, StateRenewed};
 use collider::collider_record::ColliderRecord;
 use collider::settings::Settings;
 use collider::side::Side;
+use contact_filtering::filtering::Filtering;
 use contact_parameters::renewing::{cache_of, count_change, is_enabled, renewed_flags, status_bit};
 use contact_parameters::surface::Surface;
-use contact_records::state::{
-    ContactPairFlags, RecyclingCache, store_cache, store_flags, word_of_int,
-};
+use contact_records::state::{ContactPairFlags, store_cache, store_flags, word_of_int};
 use contact_types::contact_manifold::ContactRecyclingCache;
 use layout::contact::{
-    CONTACT_CACHE, CONTACT_COUNT_CHANGE, CONTACT_FLAGS, CONTACT_MANIFOLDS,
+    CONTACT_CACHE, CONTACT_COUNT_CHANGE, CONTACT_FIRST_MANIFOLD, CONTACT_FLAGS, CONTACT_MANIFOLDS,
     CONTACT_SPECULATIVE_DISTANCE,
 };
 use layout::manifold::{ALL_MANIFOLDS_SIZE, MANIFOLD_SIZE};
-use manifold_matching::matching::match_manifolds;
+use manifold_matching::matching::{Matching, match_manifolds};
 use manifold_records::zeros::store_zeros;
 use math::constants::TENTH;
 use narrow_phase::manifold::store_remaining;
-use words::row::{load_word, load_words, store_word};
+use words::load::load;
+use words::row::load_words;
+use words::store::store;
 
 // What an update makes of a pair besides its manifolds, and what it answers.
 #[derive(Clone, Copy)]
@@ -52,41 +52,39 @@ pub struct Renewal {
 fn matched_count(s: Settings, old: u32, new: u32) -> u32
     ensures { result ≡ cond (s.match_contacts && leb new 4) old 0 }
 {
-    if !s.match_contacts {
-        return 0;
-    }
-    if 4 < new {
-        return 0;
-    }
-    old
+    if s.match_contacts && new <= 4 { old } else { 0 }
 }
 
 // Rules 9 to 11, from a copy of the old manifolds' words: the new ones are made and matched where the old ones stood. How many.
+// The filtering is passed by value: behind a reference it is not known that the surface's floats fit, which matching requires.
 fn renew_from(
     words: &mut [u32],
     olds: &[u32],
     old: u32,
     s: Settings,
-    a: Side,
-    b: Side,
-    f: Surface,
+    filtering: Filtering,
     modify: bool,
     proposal: &[u32],
 ) -> u32
     requires { (length words.old ≡ contact_size) × OldManifolds olds.now old × (length proposal.now ≡ proposal_size) × Proposed proposal.now 0 }
-    ensures { ManifoldsRenewed (plain_settings s) (manifolds_from olds.now old) (remaining s.step_time (plain_side a) (plain_side b) (plain_surface f) modify (hook_at proposal.now 0) (proposal_at proposal.now 0)) words.old words.new result }
+    ensures { ManifoldsRenewed (plain_settings s) (manifolds_from olds.now old) (remaining filtering.step_time (plain_side filtering.a) (plain_side filtering.b) (plain_surface filtering.surface) modify (hook_at proposal.now 0) (proposal_at proposal.now 0)) words.old words.new result }
 {
-    let first = CONTACT_MANIFOLDS + 1;
-    let n = store_remaining(proposal, s.step_time, a, b, f, modify, words, first);
-    let m = matched_count(s, old, n as u32) as usize;
-    match_manifolds(words, first, n, olds, m, s.by_place, TENTH * s.length_unit);
-    store_word(words, CONTACT_MANIFOLDS, n as u32);
+    let first = CONTACT_FIRST_MANIFOLD;
+    let n = store_remaining(&filtering, proposal, modify, words, first);
+    let count = n as u32;
+    let m = matched_count(s, old, count) as usize;
+    let rule = Matching {
+        by_place: s.by_place,
+        threshold: TENTH * s.length_unit,
+    };
+    match_manifolds(words, first, n, olds, m, rule);
+    store(words, CONTACT_MANIFOLDS, count);
     store_zeros(
         words,
         first + n * MANIFOLD_SIZE,
         ALL_MANIFOLDS_SIZE - n * MANIFOLD_SIZE,
     );
-    n as u32
+    count
 }
 
 // The old manifolds are copied first. Most pairs have one at most, and then no more is copied.
@@ -102,15 +100,21 @@ pub fn renew_manifolds(
     requires { (length words.old ≡ contact_size) × Counted words.old contact_manifolds × (length proposal.now ≡ proposal_size) × Proposed proposal.now 0 }
     ensures { ManifoldsRenewed (plain_settings s) (manifolds_at words.old contact_manifolds) (remaining s.step_time (plain_side a) (plain_side b) (plain_surface f) modify (hook_at proposal.now 0) (proposal_at proposal.now 0)) words.old words.new result }
 {
-    let old = load_word(words, CONTACT_MANIFOLDS);
+    let filtering = Filtering {
+        step_time: s.step_time,
+        a,
+        b,
+        surface: f,
+    };
+    let old = load::<u32>(words, CONTACT_MANIFOLDS);
     if old <= 1 {
         let mut one = [0u32; MANIFOLD_SIZE];
-        load_words(words, CONTACT_MANIFOLDS + 1, &mut one);
-        return renew_from(words, &one, old, s, a, b, f, modify, proposal);
+        load_words(words, CONTACT_FIRST_MANIFOLD, &mut one);
+        return renew_from(words, &one, old, s, filtering, modify, proposal);
     }
     let mut all = [0u32; ALL_MANIFOLDS_SIZE];
-    load_words(words, CONTACT_MANIFOLDS + 1, &mut all);
-    renew_from(words, &all, old, s, a, b, f, modify, proposal)
+    load_words(words, CONTACT_FIRST_MANIFOLD, &mut all);
+    renew_from(words, &all, old, s, filtering, modify, proposal)
 }
 
 // Rules 6 and 12, from the surface and the two counts of manifolds.
@@ -140,22 +144,22 @@ pub fn renew(
 }
 
 // The flags, the count change, and 0 for the speculative distance.
+#[tactic(auto, using(crate::specs::StoreLaws::marks_stored))]
 fn store_marks(words: &mut [u32], flags: ContactPairFlags, change: u32)
     requires { length words.old ≡ contact_size }
     ensures { words.new ≡ put words.old contact_flags (flags_words (flags_of flags) ++ change ∷ 0 ∷ []) }
 {
     store_flags(words, CONTACT_FLAGS, flags);
-    store_word(words, CONTACT_COUNT_CHANGE, change);
-    store_word(words, CONTACT_SPECULATIVE_DISTANCE, 0);
+    store(words, CONTACT_COUNT_CHANGE, change);
+    store(words, CONTACT_SPECULATIVE_DISTANCE, 0);
 }
 
 // A pair's own words before its manifolds.
+#[tactic(auto, using(crate::specs::StoreLaws::renewal_stored))]
 pub fn store_renewal(words: &mut [u32], r: Renewal)
     requires { length words.old ≡ contact_size }
-    ensures { words.new ≡ put words.old contact_flags (flags_words (flags_of r.flags) ++ r.change ∷ 0 ∷ cache_words (some (cached_of r.cache))) }
+    ensures { words.new ≡ put words.old contact_flags (flags_words (flags_of r.flags) ++ r.change ∷ 0 ∷ cache_words (Some (cached_of r.cache))) }
 {
-    let flags = r.flags;
-    let cache = r.cache;
-    store_marks(words, flags, r.change);
-    store_cache(words, CONTACT_CACHE, RecyclingCache::Cached(cache));
+    store_marks(words, r.flags, r.change);
+    store_cache(words, CONTACT_CACHE, Some(r.cache));
 }

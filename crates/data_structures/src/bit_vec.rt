@@ -1,26 +1,37 @@
 // Bits in a lent row of 64-bit words. From avian's src/data_structures/bit_vec.rs.
-ghost use Rattle.std.specs.Prelude.{◌≡◌, ◌+◌, ◌*◌, ◌^◌, ◌≤◌, ◌<◌, length};
+#![tactic(auto, unfolding(crate::specs::BitVec::blocks_of, crate::specs::BitVec::marked))]
+
+ghost use Rattle.std.specs.Prelude.{◌≡◌, ◌+◌, ◌*◌, ◌/◌, ◌%◌, ◌^◌, ◌≤◌, ◌<◌, length};
 ghost use Rattle.data_structures.specs.BitVec.{blocks_of, bit_at, cleared, marked, joined, word_bits, Written, Visited};
 
 // How many words hold that many bits.
 pub fn blocks(bits: usize) -> usize
     ensures { result ≡ blocks_of bits }
 {
-    if bits % 64 == 0 {
-        bits / 64
-    } else {
-        bits / 64 + 1
-    }
+    bits.div_ceil(64)
 }
 
 // Every word 0.
 pub fn clear(bits: &mut [u64])
     ensures { bits.new ≡ cleared bits.old }
 {
-    let mut k = 0;
-    while k < bits.len() {
-        bits[k] = 0;
-        k += 1;
+    bits.fill(0);
+}
+
+// The word that a bit stands in, and its mask there.
+#[derive(Clone, Copy)]
+struct Place {
+    block: usize,
+    mask: u64,
+}
+
+fn place_of(index: usize) -> Place
+    ensures block { result.block ≡ index / 64 }
+    ensures mask { result.mask ≡ 2 ^ (index % 64) }
+{
+    Place {
+        block: index / 64,
+        mask: 1u64 << (index % 64),
     }
 }
 
@@ -29,8 +40,7 @@ pub fn set(bits: &mut [u64], index: usize)
     requires { index < 64 * length bits.old }
     ensures { bits.new ≡ marked bits.old index }
 {
-    let block = index / 64;
-    let mask = 1u64 << (index % 64);
+    let Place { block, mask } = place_of(index);
     bits[block] |= mask;
 }
 
@@ -38,23 +48,20 @@ pub fn set(bits: &mut [u64], index: usize)
 pub fn get(bits: &[u64], index: usize) -> bool
     ensures { result ≡ bit_at bits.now index }
 {
-    let block = index / 64;
+    let Place { block, mask } = place_of(index);
     if block >= bits.len() {
         return false;
     }
-    let mask = 1u64 << (index % 64);
     (bits[block] & mask) != 0
 }
 
-// Joins other into bits, word by word.
+// Joins other into bits, word by word: by number, since a `zip` with `iter_mut` tells a proof nothing of the words.
 pub fn or(bits: &mut [u64], other: &[u64])
     requires { length other.now ≡ length bits.old }
     ensures { bits.new ≡ joined bits.old other.now }
 {
-    let mut k = 0;
-    while k < bits.len() {
+    for k in 0..bits.len() {
         bits[k] |= other[k];
-        k += 1;
     }
 }
 
@@ -66,7 +73,7 @@ fn ones_of_word(word: u64, base: u32, ids: &mut [u32], at: usize) -> usize
     let mut word = word;
     let mut n = at;
     while word != 0 {
-        let next = u64::trailing_zeros(word);
+        let next = word.trailing_zeros();
         ids[n] = base + next;
         n += 1;
         word &= word - 1;
@@ -80,12 +87,8 @@ pub fn ones(bits: &[u64], ids: &mut [u32]) -> usize
     ensures { Visited bits.now ids.old ids.new result }
 {
     let mut n = 0;
-    let mut i = 0;
-    while i < bits.len() {
-        let base = (64 * i) as u32;
-        let word = bits[i];
-        n = ones_of_word(word, base, ids, n);
-        i += 1;
+    for (i, word) in bits.iter().enumerate() {
+        n = ones_of_word(*word, (64 * i) as u32, ids, n);
     }
     n
 }

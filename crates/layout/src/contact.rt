@@ -70,4 +70,6 @@ pub const CACHE_SIZE: usize = 16;
 // The number of manifolds, then the manifolds.
 pub const CONTACT_MANIFOLDS: usize = 36;
 
+pub const CONTACT_FIRST_MANIFOLD: usize = CONTACT_MANIFOLDS + 1;
+
 pub const CONTACT_SIZE: usize = CONTACT_MANIFOLDS + MANIFOLDS_SIZE;

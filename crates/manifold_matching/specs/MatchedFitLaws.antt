@@ -1,8 +1,7 @@
 -- What matching makes of points and manifolds that fit: every float is one of 32 bits, and the lists are within the limits. Rule 11. Assumes nothing.
 use Rattle.std.proofs.Common.{sym, subst, not-suc-le-zero, le_of_suc-le-suc, arith}
-use Rattle.std.specs.Prelude.{ℕ, zero, suc, ◌<◌, Float, length, get_or}
+use Rattle.std.specs.Prelude.{ℕ, zero, suc, ◌<◌, Float, length, get_or, Option, None, Some}
 use mathlib.Core.List.{List, [], ◌∷◌, map}
-use Rattle.std.proofs.Math.Option.{Option, none, some}
 use Rattle.std.proofs.lemmas.List.{length-map}
 use Rattle.math.specs.Floats.{◌⊗◌}
 use Rattle.rows.specs.Slots.{upto}
@@ -52,8 +51,8 @@ points_mapped f g ps h = record { few = rw (length-map ps f) h.few; each = each_
 -- ---- rule 11
 -- an old point's impulses; past the old ones' end stands the new point itself
 pub taking_fits : (olds : List Point) (new : Point) (o : Option ℕ) → Each FitPoint olds → FitPoint new → FitPoint (taking olds new o)
-taking_fits olds new none h n = n
-taking_fits olds new (some k) h n =
+taking_fits olds new None h n = n
+taking_fits olds new (Some k) h n =
     let f = each_at FitPoint olds k new h n in
     record {
       anchor1 = n.anchor1;

@@ -1,5 +1,5 @@
 -- Lists that a loop fills from the front, and words filled up with zeros. Assumes nothing.
-use Rattle.std.specs.Prelude.{◌≡◌, get_or, take}
+use Rattle.std.specs.Prelude.{◌≡◌, get_or, take, replicate}
 use Rattle.std.proofs.Math.Path.{refl, sym, ap}
 use Rattle.std.proofs.Common.{◌∙◌, not-suc-le-zero, le_of_suc-le-suc, add-one, arith, length-append, length-take}
 use Prim.Native.Nat.{ℕ, zero, suc, ◌+◌, ◌-◌, ◌≤◌, ◌<◌}
@@ -43,6 +43,11 @@ module _ {ℓ} {A : Type ℓ} where
       map-append f (upto n) (n ∷ []) ∙ (λ i. map_upto_same f g n (λ k h. e k (omega arith)) i ++ e n (omega arith) i ∷ []) ∙ sym (map-append g (upto n) (n ∷ []))
 
 -- ---- zeros
+
+pub zeros_replicate : (n : ℕ) → replicate n 0 ≡ zeros n
+unfolding zeros
+zeros_replicate zero = refl
+zeros_replicate (suc n) = ap (λ (ws : List ℕ). 0 ∷ ws) (zeros_replicate n)
 
 pub length_zeros : (n : ℕ) → length (zeros n) ≡ n
 unfolding zeros

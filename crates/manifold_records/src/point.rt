@@ -106,10 +106,8 @@ pub fn store_listed(g: &mut [u32], at: usize, points: [ContactPoint; STORED_POIN
     requires { (n ≤ stored_points) × (at + points_size ≤ length g.old) }
     ensures { g.new ≡ put g.old at (each point_words (map point_of (take n points))) }
 {
-    let mut k = 0;
-    while k < n {
+    for k in 0..n {
         let p = points[k];
         store_point(g, at + k * POINT_SIZE, p);
-        k += 1;
     }
 }

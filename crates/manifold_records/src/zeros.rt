@@ -8,9 +8,6 @@ pub fn store_zeros(g: &mut [u32], at: usize, n: usize)
     requires { at + n ≤ length g.old }
     ensures { g.new ≡ put g.old at (zeros n) }
 {
-    let mut k = 0;
-    while k < n {
-        g[at + k] = 0;
-        k += 1;
-    }
+    let end = at + n;
+    g[at..end].fill(0);
 }

@@ -1,22 +1,28 @@
 // The larger and the smaller of two floats: `f32::max` and `f32::min`, with the sign of zero fixed.
-ghost use Rattle.std.specs.Prelude.{◌≡◌};
+#![tactic(auto, unfolding(crate::specs::Choose::maximum, crate::specs::Choose::minimum))]
+
+ghost use Rattle.std.specs.Prelude.{◌≡◌, cond, is_nan};
 ghost use Rattle.math.specs.Choose.{maximum, minimum};
 
-// One NaN is ignored; on equal operands the left is taken.
+// b where it is the one to take. One NaN is ignored.
+fn choose(a: f32, b: f32, take_b: bool) -> f32
+    ensures { result ≡ cond (is_nan a) b (cond take_b b a) }
+{
+    if a.is_nan() {
+        return b;
+    }
+    if take_b { b } else { a }
+}
+
+// On equal operands the left is taken.
 pub fn maximum(a: f32, b: f32) -> f32
     ensures { result ≡ maximum a b }
 {
-    if a != a {
-        return b;
-    }
-    if a < b { b } else { a }
+    choose(a, b, a < b)
 }
 
 pub fn minimum(a: f32, b: f32) -> f32
     ensures { result ≡ minimum a b }
 {
-    if a != a {
-        return b;
-    }
-    if b < a { b } else { a }
+    choose(a, b, b < a)
 }

@@ -1,11 +1,13 @@
 // A matrix of three columns, of a rotation: glam's `Mat3`.
+#![tactic(auto, unfolding(crate::specs::Mat::matrix))]
+
 ghost use Rattle.std.specs.Prelude.{◌≡◌};
 ghost use Rattle.math.specs.Mat.{matrix, ◌*m◌};
 
 use crate::quat::Quat;
 use crate::vec::Vec3;
 
-#[derive(Clone, Copy)]
+#[derive(Clone, Copy, PartialEq, Debug)]
 pub struct Mat3 {
     pub x_axis: Vec3,
     pub y_axis: Vec3,
@@ -42,9 +44,6 @@ impl Mat3 {
     pub fn mul_vec3(self, v: Vec3) -> Vec3
         ensures { result ≡ self *m v }
     {
-        let x = self.x_axis.mul(v.x);
-        let y = self.y_axis.mul(v.y);
-        let z = self.z_axis.mul(v.z);
-        x.add(y).add(z)
+        self.x_axis * v.x + self.y_axis * v.y + self.z_axis * v.z
     }
 }

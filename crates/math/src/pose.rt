@@ -1,11 +1,13 @@
 // A body's position and rotation, by value: `Position` and `Rotation` of transform.rs.
+#![tactic(auto, unfolding(crate::specs::Pose::relative))]
+
 ghost use Rattle.std.specs.Prelude.{◌≡◌};
 ghost use Rattle.math.specs.Pose.{relative};
 
 use crate::quat::Quat;
 use crate::vec::Vec3;
 
-#[derive(Clone, Copy)]
+#[derive(Clone, Copy, PartialEq, Debug)]
 pub struct Pose {
     pub position: Vec3,
     pub rotation: Quat,
@@ -23,7 +25,7 @@ impl Pose {
     {
         let back = self.rotation.inverse();
         Pose {
-            position: back.mul_vec3(other.position.sub(self.position)),
+            position: back.mul_vec3(other.position - self.position),
             rotation: back.mul_quat(other.rotation),
         }
     }

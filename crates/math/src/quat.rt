@@ -1,10 +1,12 @@
 // Quaternions of 32-bit floats, by value: `Rotation` of transform.rs, `QuatExt` of math/mod.rs, and glam's `Quat`.
+#![tactic(auto, unfolding(crate::specs::Quat::axis, crate::specs::Quat::dot4, crate::specs::Quat::times, crate::specs::Quat::inverse, crate::specs::Quat::rotate, crate::specs::Quat::chord_length))]
+
 ghost use Rattle.std.specs.Prelude.{◌≡◌};
 ghost use Rattle.math.specs.Quat.{axis, dot4, times, inverse, rotate, chord_length};
 
 use crate::vec::Vec3;
 
-#[derive(Clone, Copy)]
+#[derive(Clone, Copy, PartialEq, Debug)]
 pub struct Quat {
     pub x: f32,
     pub y: f32,
@@ -66,10 +68,10 @@ impl Quat {
         ensures { result ≡ rotate self v }
     {
         let b = self.xyz();
-        let along = v.mul(self.w * self.w - b.dot(b));
-        let toward = b.mul(2.0 * v.dot(b));
-        let around = b.cross(v).mul(2.0 * self.w);
-        along.add(toward).add(around)
+        let along = v * (self.w * self.w - b.dot(b));
+        let toward = b * (2.0 * v.dot(b));
+        let around = b.cross(v) * (2.0 * self.w);
+        along + toward + around
     }
 
     // The straight-line distance between the ends of the rotation's arc on the unit sphere.

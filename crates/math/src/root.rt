@@ -1,8 +1,10 @@
 // The square root of a float, correctly rounded: an estimate in floats, corrected in whole numbers.
+#![tactic(auto, unfolding(crate::specs::Estimate::estimate, crate::specs::Estimate::guess))]
+
 ghost use Rattle.std.specs.Prelude.{◌≡◌, ◌-◌, ◌*◌, ◌/◌, ◌^◌, ◌<◌, ◌≤◌, from_bits};
 ghost use Rattle.std.specs.Float.{binary32};
 ghost use Rattle.math.specs.Root.{IsNearest, nearest_root, root};
-ghost use Rattle.math.specs.Estimate.{IsNormal, estimate, held, guess, stepped, leading, squared};
+ghost use Rattle.math.specs.Estimate.{IsNormal, estimate, guess, stepped, leading, squared};
 
 use crate::bits::{bits_of, float_of};
 
@@ -18,20 +20,13 @@ fn estimate(b: u32) -> f32
     (z + x / z) * 0.5
 }
 
-// A guess is held to 2^24, which no number of 24 digits reaches.
-fn held(g: u32) -> u32
-    ensures { result ≡ held g }
-{
-    if 0x100_0000 < g { 0x100_0000 } else { g }
-}
-
 // What the root's digits are corrected from: the estimate's pattern, less the exponent's part of the
-// root's pattern. Whatever the estimate is, the result is held.
+// root's pattern. It is held to 2^24, which no number of 24 digits reaches, whatever the estimate is.
 pub fn guess(b: u32) -> u32
     ensures { result ≡ guess b }
 {
     let exponent = (b / 0x80_0000 + 125) / 2 * 0x80_0000;
-    held(std::num::wrapping_sub_u32(bits_of(estimate(b)), exponent))
+    bits_of(estimate(b)).wrapping_sub(exponent).min(0x100_0000)
 }
 
 // g, or one more or one less, towards the number nearest to the root of m. The tests are added as
@@ -84,7 +79,7 @@ fn normalised(m: u32) -> u32
     requires { (0 < m) × (m < 2 ^ 23) }
     ensures { IsNormal result × (leading result * 2 ^ (result / 2 ^ 23 - 1) ≡ m * 2 ^ 24) }
 {
-    let places = u32::leading_zeros(m) - 8;
+    let places = m.leading_zeros() - 8;
     (24 - places) * 0x80_0000 + (m << places)
 }
 

@@ -1,16 +1,19 @@
 // Vectors of 32-bit floats, by value, with glam's names for what is done to them.
+#![tactic(auto, unfolding(crate::specs::Vec::negated, crate::specs::Vec::dot, crate::specs::Vec::cross, crate::specs::Vec::squared_length, crate::specs::Vec::squared_distance, crate::specs::Vec::length3, crate::specs::Vec::clamp_length, crate::specs::Vec::reject))]
+
 ghost use Rattle.std.specs.Prelude.{◌≡◌};
 ghost use Rattle.math.specs.Vec.{vec3, ◌+v◌, ◌-v◌, ◌*v◌, negated, dot, cross, squared_length, squared_distance, length3, clamp_length, reject};
 
 use crate::root::root;
+use std::ops::{Add, Mul, Neg, Sub};
 
-#[derive(Clone, Copy)]
+#[derive(Clone, Copy, PartialEq, Debug, Default)]
 pub struct Vec2 {
     pub x: f32,
     pub y: f32,
 }
 
-#[derive(Clone, Copy)]
+#[derive(Clone, Copy, PartialEq, Debug, Default)]
 pub struct Vec3 {
     pub x: f32,
     pub y: f32,
@@ -32,46 +35,6 @@ impl Vec3 {
         ensures { result ≡ vec3 x y z }
     {
         Vec3 { x, y, z }
-    }
-
-    pub fn add(self, b: Vec3) -> Vec3
-        ensures { result ≡ self +v b }
-    {
-        Vec3 {
-            x: self.x + b.x,
-            y: self.y + b.y,
-            z: self.z + b.z,
-        }
-    }
-
-    pub fn sub(self, b: Vec3) -> Vec3
-        ensures { result ≡ self -v b }
-    {
-        Vec3 {
-            x: self.x - b.x,
-            y: self.y - b.y,
-            z: self.z - b.z,
-        }
-    }
-
-    pub fn mul(self, k: f32) -> Vec3
-        ensures { result ≡ self *v k }
-    {
-        Vec3 {
-            x: self.x * k,
-            y: self.y * k,
-            z: self.z * k,
-        }
-    }
-
-    pub fn neg(self) -> Vec3
-        ensures { result ≡ negated self }
-    {
-        Vec3 {
-            x: -self.x,
-            y: -self.y,
-            z: -self.z,
-        }
     }
 
     pub fn dot(self, b: Vec3) -> f32
@@ -99,7 +62,7 @@ impl Vec3 {
     pub fn distance_squared(self, b: Vec3) -> f32
         ensures { result ≡ squared_distance self b }
     {
-        self.sub(b).length_squared()
+        (self - b).length_squared()
     }
 
     pub fn length(self) -> f32
@@ -129,6 +92,62 @@ impl Vec3 {
     pub fn reject_from_normalized(self, normal: Vec3) -> Vec3
         ensures { result ≡ reject self normal }
     {
-        self.sub(normal.mul(self.dot(normal)))
+        self - normal * self.dot(normal)
+    }
+}
+
+impl Add for Vec3 {
+    type Output = Vec3;
+
+    ghost add_gives = { λ a b r. r ≡ a +v b };
+
+    fn add(self, b: Vec3) -> Vec3 {
+        Vec3 {
+            x: self.x + b.x,
+            y: self.y + b.y,
+            z: self.z + b.z,
+        }
+    }
+}
+
+impl Sub for Vec3 {
+    type Output = Vec3;
+
+    ghost sub_gives = { λ a b r. r ≡ a -v b };
+
+    fn sub(self, b: Vec3) -> Vec3 {
+        Vec3 {
+            x: self.x - b.x,
+            y: self.y - b.y,
+            z: self.z - b.z,
+        }
+    }
+}
+
+impl Mul<f32> for Vec3 {
+    type Output = Vec3;
+
+    ghost mul_gives = { λ a k r. r ≡ a *v k };
+
+    fn mul(self, k: f32) -> Vec3 {
+        Vec3 {
+            x: self.x * k,
+            y: self.y * k,
+            z: self.z * k,
+        }
+    }
+}
+
+impl Neg for Vec3 {
+    type Output = Vec3;
+
+    ghost neg_gives = { λ a r. r ≡ negated a };
+
+    fn neg(self) -> Vec3 {
+        Vec3 {
+            x: -self.x,
+            y: -self.y,
+            z: -self.z,
+        }
     }
 }

@@ -22,26 +22,17 @@ const OPERANDS: [u32; 12] = [
 ];
 
 fn print_choice<W: Write>(out: &mut W, a: u32, b: u32) -> io::Result<()> {
-    let larger = [a, b, bits_of(maximum(float_of(a), float_of(b)))];
-    print_line(out, b"maximum", &larger)?;
-    let smaller = [a, b, bits_of(minimum(float_of(a), float_of(b)))];
-    print_line(out, b"minimum", &smaller)
-}
-
-fn print_choices_with<W: Write>(out: &mut W, a: u32) -> io::Result<()> {
-    let mut k = 0;
-    while k < 12 {
-        print_choice(out, a, OPERANDS[k])?;
-        k += 1;
-    }
-    Ok(())
+    let larger = maximum(float_of(a), float_of(b));
+    print_line(out, "maximum", &[a, b, bits_of(larger)])?;
+    let smaller = minimum(float_of(a), float_of(b));
+    print_line(out, "minimum", &[a, b, bits_of(smaller)])
 }
 
 pub fn print_choices<W: Write>(out: &mut W) -> io::Result<()> {
-    let mut k = 0;
-    while k < 12 {
-        print_choices_with(out, OPERANDS[k])?;
-        k += 1;
+    for a in OPERANDS {
+        for b in OPERANDS {
+            print_choice(out, a, b)?;
+        }
     }
     Ok(())
 }

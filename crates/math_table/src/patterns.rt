@@ -1,7 +1,6 @@
 // Awkward and ordinary floats, and the vectors and quaternions made of them: the cases go through
 // the table with another stride for each part. A tame case leaves the awkward patterns out.
-ghost use Rattle.std.specs.Prelude.{◌<◌};
-
+use case_draws::draws::{pick, slot};
 use math::bits::float_of;
 use math::quat::Quat;
 use math::vec::Vec3;
@@ -42,39 +41,34 @@ const PATTERNS: [u32; 31] = [
     0xc228_c7ae,
 ];
 
+// The first pattern with an exponent's field.
+pub fn first_with(field: u8) -> u32 {
+    u32::from(field) << 23
+}
+
 // The k-th pattern's float, from the start again past the last.
 pub fn pattern(k: u32) -> f32 {
-    float_of(PATTERNS[(k % 31) as usize])
+    float_of(pick(&PATTERNS, k))
 }
 
-pub fn value(c: u32, tame: bool, stride: u32) -> f32
-    requires { (c < 256) × (stride < 256) }
-{
-    let k = (c + stride) * stride;
-    if tame {
-        pattern(12 + k % 19)
-    } else {
-        pattern(k)
-    }
+pub fn value(c: u32, tame: bool, stride: u32) -> f32 {
+    let k = slot(c, stride).wrapping_mul(stride);
+    pattern(if tame { 12 + k % 19 } else { k })
 }
 
-pub fn vector(c: u32, tame: bool, stride: u32) -> Vec3
-    requires { (c < 256) × (stride < 240) }
-{
+pub fn vector(c: u32, tame: bool, stride: u32) -> Vec3 {
     Vec3 {
         x: value(c, tame, stride),
-        y: value(c, tame, stride + 1),
-        z: value(c, tame, stride + 2),
+        y: value(c, tame, slot(stride, 1)),
+        z: value(c, tame, slot(stride, 2)),
     }
 }
 
-pub fn quat(c: u32, tame: bool, stride: u32) -> Quat
-    requires { (c < 256) × (stride < 240) }
-{
+pub fn quat(c: u32, tame: bool, stride: u32) -> Quat {
     Quat {
         x: value(c, tame, stride),
-        y: value(c, tame, stride + 2),
-        z: value(c, tame, stride + 3),
-        w: value(c, tame, stride + 7),
+        y: value(c, tame, slot(stride, 2)),
+        z: value(c, tame, slot(stride, 3)),
+        w: value(c, tame, slot(stride, 7)),
     }
 }

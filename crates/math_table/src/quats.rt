@@ -1,6 +1,4 @@
 // What is done to quaternions, matrices and poses: the operands in a line, then the results.
-ghost use Rattle.std.specs.Prelude.{◌<◌};
-
 use crate::line::{print_float, print_line, print_quat, print_vector};
 use crate::patterns::{quat, vector};
 use math::bits::bits_of;
@@ -12,25 +10,25 @@ use std::io;
 use std::io::Write;
 
 fn print_rotations<W: Write>(out: &mut W, a: Quat, b: Quat, v: Vec3) -> io::Result<()> {
-    print_float(out, b"dot4", a.dot(b))?;
-    print_quat(out, b"mul_quat", a.mul_quat(b))?;
-    print_quat(out, b"inverse", a.inverse())?;
-    print_vector(out, b"mul_vec3", a.mul_vec3(v))?;
-    print_float(out, b"chord_length", a.chord_length())
+    print_float(out, "dot4", a.dot(b))?;
+    print_quat(out, "mul_quat", a.mul_quat(b))?;
+    print_quat(out, "inverse", a.inverse())?;
+    print_vector(out, "mul_vec3", a.mul_vec3(v))?;
+    print_float(out, "chord_length", a.chord_length())
 }
 
 fn print_matrix<W: Write>(out: &mut W, a: Quat, v: Vec3) -> io::Result<()> {
     let m = Mat3::from_quat(a);
-    print_vector(out, b"x_axis", m.x_axis)?;
-    print_vector(out, b"y_axis", m.y_axis)?;
-    print_vector(out, b"z_axis", m.z_axis)?;
-    print_vector(out, b"matrix_mul_vec3", m.mul_vec3(v))
+    print_vector(out, "x_axis", m.x_axis)?;
+    print_vector(out, "y_axis", m.y_axis)?;
+    print_vector(out, "z_axis", m.z_axis)?;
+    print_vector(out, "matrix_mul_vec3", m.mul_vec3(v))
 }
 
 fn print_relative<W: Write>(out: &mut W, a: Pose, b: Pose) -> io::Result<()> {
     let r = a.relative(b);
-    print_vector(out, b"position", r.position)?;
-    print_quat(out, b"rotation", r.rotation)
+    print_vector(out, "position", r.position)?;
+    print_quat(out, "rotation", r.rotation)
 }
 
 fn print_operands<W: Write>(out: &mut W, a: Quat, b: Quat, v: Vec3, u: Vec3) -> io::Result<()> {
@@ -50,12 +48,10 @@ fn print_operands<W: Write>(out: &mut W, a: Quat, b: Quat, v: Vec3, u: Vec3) -> 
         bits_of(u.y),
         bits_of(u.z),
     ];
-    print_line(out, b"quats", &words)
+    print_line(out, "quats", &words)
 }
 
-fn print_case<W: Write>(out: &mut W, c: u32, tame: bool) -> io::Result<()>
-    requires { c < 256 }
-{
+fn print_case<W: Write>(out: &mut W, c: u32, tame: bool) -> io::Result<()> {
     let a = quat(c, tame, 1);
     let b = quat(c, tame, 10);
     let v = vector(c, tame, 5);
@@ -78,11 +74,10 @@ fn print_case<W: Write>(out: &mut W, c: u32, tame: bool) -> io::Result<()>
 
 // Each case with every pattern, and tame.
 pub fn print_quats<W: Write>(out: &mut W) -> io::Result<()> {
-    let mut c = 0;
-    while c < 40 {
-        print_case(out, c, false)?;
-        print_case(out, c, true)?;
-        c += 1;
+    for c in 0..40 {
+        for tame in [false, true] {
+            print_case(out, c, tame)?;
+        }
     }
     Ok(())
 }

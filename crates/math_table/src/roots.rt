@@ -1,8 +1,7 @@
 // Roots: at every exponent, around the squares of the 12-bit numbers, and of zeros, infinities, NaNs
 // and negative numbers.
-ghost use Rattle.std.specs.Prelude.{◌<◌};
-
 use crate::line::print_line;
+use crate::patterns::first_with;
 use math::bits::{bits_of, float_of};
 use math::root::root;
 use std::io;
@@ -36,53 +35,42 @@ const SPECIALS: [u32; 18] = [
 ];
 
 fn print_root<W: Write>(out: &mut W, bits: u32) -> io::Result<()> {
-    let words = [bits, bits_of(root(float_of(bits)))];
-    print_line(out, b"root", &words)
+    print_line(out, "root", &[bits, bits_of(root(float_of(bits)))])
 }
 
-fn print_field<W: Write>(out: &mut W, field: u32) -> io::Result<()>
-    requires { field < 255 }
-{
-    let mut k = 0;
-    while k < 10 {
-        print_root(out, field * 0x80_0000 | SIGNIFICANDS[k])?;
-        k += 1;
+fn print_field<W: Write>(out: &mut W, field: u8) -> io::Result<()> {
+    for significand in SIGNIFICANDS {
+        print_root(out, first_with(field) | significand)?;
     }
     Ok(())
 }
 
 pub fn print_fields<W: Write>(out: &mut W) -> io::Result<()> {
-    let mut field = 0;
-    while field < 255 {
+    for field in 0..255 {
         print_field(out, field)?;
-        field += 1;
     }
     Ok(())
 }
 
 // The square of a 12-bit number, and the floats beside it.
 fn print_square<W: Write>(out: &mut W, n: u16) -> io::Result<()> {
-    let x = n as f32;
+    let x = f32::from(n);
     let bits = bits_of(x * x);
-    print_root(out, std::num::wrapping_sub_u32(bits, 1))?;
+    print_root(out, bits.wrapping_sub(1))?;
     print_root(out, bits)?;
-    print_root(out, std::num::wrapping_add_u32(bits, 1))
+    print_root(out, bits.wrapping_add(1))
 }
 
 pub fn print_squares<W: Write>(out: &mut W) -> io::Result<()> {
-    let mut n = 2048;
-    while n < 4096 {
+    for n in 2048..4096 {
         print_square(out, n)?;
-        n += 1;
     }
     Ok(())
 }
 
 pub fn print_specials<W: Write>(out: &mut W) -> io::Result<()> {
-    let mut k = 0;
-    while k < 18 {
-        print_root(out, SPECIALS[k])?;
-        k += 1;
+    for special in SPECIALS {
+        print_root(out, special)?;
     }
     Ok(())
 }

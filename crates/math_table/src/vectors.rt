@@ -1,6 +1,4 @@
 // What is done to vectors: the operands in a line, then the results.
-ghost use Rattle.std.specs.Prelude.{◌<◌};
-
 use crate::line::{print_float, print_line, print_vector};
 use crate::patterns::{pattern, value, vector};
 use math::bits::bits_of;
@@ -9,24 +7,22 @@ use std::io;
 use std::io::Write;
 
 fn print_sums<W: Write>(out: &mut W, a: Vec3, b: Vec3, k: f32) -> io::Result<()> {
-    print_vector(out, b"add", a.add(b))?;
-    print_vector(out, b"sub", a.sub(b))?;
-    print_vector(out, b"mul", a.mul(k))?;
-    print_vector(out, b"neg", a.neg())
+    print_vector(out, "add", a + b)?;
+    print_vector(out, "sub", a - b)?;
+    print_vector(out, "mul", a * k)?;
+    print_vector(out, "neg", -a)
 }
 
 fn print_products<W: Write>(out: &mut W, a: Vec3, b: Vec3, k: f32) -> io::Result<()> {
-    print_float(out, b"dot", a.dot(b))?;
-    print_vector(out, b"cross", a.cross(b))?;
-    print_float(out, b"length", a.length())?;
-    print_float(out, b"distance_squared", a.distance_squared(b))?;
-    print_vector(out, b"clamp_length_max", a.clamp_length_max(k))?;
-    print_vector(out, b"reject_from_normalized", a.reject_from_normalized(b))
+    print_float(out, "dot", a.dot(b))?;
+    print_vector(out, "cross", a.cross(b))?;
+    print_float(out, "length", a.length())?;
+    print_float(out, "distance_squared", a.distance_squared(b))?;
+    print_vector(out, "clamp_length_max", a.clamp_length_max(k))?;
+    print_vector(out, "reject_from_normalized", a.reject_from_normalized(b))
 }
 
-fn print_case<W: Write>(out: &mut W, c: u32, tame: bool) -> io::Result<()>
-    requires { c < 256 }
-{
+fn print_case<W: Write>(out: &mut W, c: u32, tame: bool) -> io::Result<()> {
     let a = vector(c, tame, 1);
     let b = vector(c, tame, 6);
     let k = value(c, tame, 11);
@@ -39,18 +35,17 @@ fn print_case<W: Write>(out: &mut W, c: u32, tame: bool) -> io::Result<()>
         bits_of(b.z),
         bits_of(k),
     ];
-    print_line(out, b"vectors", &words)?;
+    print_line(out, "vectors", &words)?;
     print_sums(out, a, b, k)?;
     print_products(out, a, b, k)
 }
 
 // Each case with every pattern, and tame.
 pub fn print_vectors<W: Write>(out: &mut W) -> io::Result<()> {
-    let mut c = 0;
-    while c < 40 {
-        print_case(out, c, false)?;
-        print_case(out, c, true)?;
-        c += 1;
+    for c in 0..40 {
+        for tame in [false, true] {
+            print_case(out, c, tame)?;
+        }
     }
     Ok(())
 }
@@ -58,15 +53,16 @@ pub fn print_vectors<W: Write>(out: &mut W) -> io::Result<()> {
 // The maximum is the length, or its opposite: the vector is kept.
 fn print_kept<W: Write>(out: &mut W, x: f32) -> io::Result<()> {
     let r = Vec3::new(x, 0.0, 0.0).clamp_length_max(x);
-    let words = [bits_of(x), bits_of(r.x), bits_of(r.y), bits_of(r.z)];
-    print_line(out, b"kept", &words)
+    print_line(
+        out,
+        "kept",
+        &[bits_of(x), bits_of(r.x), bits_of(r.y), bits_of(r.z)],
+    )
 }
 
 pub fn print_lengths_kept<W: Write>(out: &mut W) -> io::Result<()> {
-    let mut k = 0;
-    while k < 31 {
+    for k in 0..31 {
         print_kept(out, pattern(k))?;
-        k += 1;
     }
     Ok(())
 }

@@ -1,11 +1,10 @@
 -- Pruning by the code's structs is the rule's: the kept numbers are points', and the points picked by them are the rule's. Assumes nothing.
-use Rattle.std.specs.Prelude.{◌≡◌, Bool, false, set, take}
+use Rattle.std.specs.Prelude.{◌≡◌, Bool, false, set, take, Option, None, Some}
 use Rattle.std.proofs.Math.Path.{refl, sym, ap, subst}
 use Rattle.std.proofs.Common.{◌∙◌, eq-or-lt_of_le, arith, inl, inr, get_or-set_same, get_or-set_other}
 use Prim.Native.Nat.{ℕ, zero, suc, ◌+◌, ◌≤◌, ◌<◌}
 use Rattle.std.proofs.Math.Bool.{true}
 use mathlib.Core.List.{List, [], ◌∷◌, ◌++◌, map}
-use Rattle.std.proofs.Math.Option.{Option, none, some}
 use borrow.Author.Tests.{le-ltb, lt-ltb, ltb-true, ltb-false}
 use Rattle.std.proofs.Math.Dec.{ltb}
 use Rattle.std.proofs.Math.ListN.{length, get_or}
@@ -28,18 +27,18 @@ use Rattle.narrow_phase.specs.declared.manifold.ManifoldPoints.{ManifoldPoints}
 
 -- ---- the kept numbers
 module _ (normal : Vec3) (count : ℕ) (p : ℕ → rules.Projected) where
-  listed_below : (o : Option ℕ) (xs : List ℕ) → ((k : ℕ) → o ≡ some k → k < count) → AllBelow count xs → AllBelow count (rules.listed o ++ xs)
-  listed_below none xs h t = t
-  listed_below (some k) xs h t = one_below count k xs (h k refl) t
+  listed_below : (o : Option ℕ) (xs : List ℕ) → ((k : ℕ) → o ≡ Some k → k < count) → AllBelow count xs → AllBelow count (rules.listed o ++ xs)
+  listed_below None xs h t = t
+  listed_below (Some k) xs h t = one_below count k xs (h k refl) t
 
-  last_below : (o : Option ℕ) → ((k : ℕ) → o ≡ some k → k < count) → AllBelow count (rules.listed o)
-  last_below none h = none_below count
-  last_below (some k) h = one_below count k [] (h k refl) (none_below count)
+  last_below : (o : Option ℕ) → ((k : ℕ) → o ≡ Some k → k < count) → AllBelow count (rules.listed o)
+  last_below None h = none_below count
+  last_below (Some k) h = one_below count k [] (h k refl) (none_below count)
 
   beside_below : (i : ℕ) → i < count → (o : Option ℕ) → rules.point2 count p i ≡ o → AllBelow count (rules.kept_beside normal count p i o)
   unfolding rules.kept_beside
-  beside_below i h none e = one_below count i [] h (none_below count)
-  beside_below i h (some j) e =
+  beside_below i h None e = one_below count i [] h (none_below count)
+  beside_below i h (Some j) e =
       let below = rules.point3 normal count p i j in
       let above = rules.point4 normal count p i j in
       one_below count i (rules.listed below ++ j ∷ rules.listed above) h
@@ -48,8 +47,8 @@ module _ (normal : Vec3) (count : ℕ) (p : ℕ → rules.Projected) where
 
   from_below : (o : Option ℕ) → rules.point1 count p ≡ o → AllBelow count (rules.kept_from normal count p o)
   unfolding rules.kept_from
-  from_below none e = none_below count
-  from_below (some i) e = beside_below i (point1_below count p i e) (rules.point2 count p i) refl
+  from_below None e = none_below count
+  from_below (Some i) e = beside_below i (point1_below count p i e) (rules.point2 count p i) refl
 
 pub kept_below : (normal : Vec3) (count : ℕ) (point : ℕ → rules.PrunePoint) → AllBelow count (rules.kept normal count point)
 unfolding rules.kept

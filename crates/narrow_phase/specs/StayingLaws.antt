@@ -3,7 +3,7 @@ use Rattle.std.specs.Prelude.{◌≡◌, ℕ, ◌+◌, ◌*◌, ◌<◌, Bool, n
 use Rattle.std.proofs.Math.Path.{refl, sym, ap}
 use Rattle.std.proofs.Common.{◌∙◌}
 use Rattle.std.proofs.Math.Bool.{true, false, cond}
-use mathlib.Core.List.{List, [], ◌∷◌, ◌++◌, map, map-append}
+use mathlib.Core.List.{List, [], ◌∷◌, ◌++◌, map, map-append, append-nil}
 use Rattle.rows.specs.Slots.{upto}
 use Rattle.rules.specs.Filtering.{stays, staying, is_empty, without_empty}
 use Rattle.rules.specs.Inputs.{ProposedPoint, ProposedManifold}
@@ -55,6 +55,15 @@ module _ (t d : Float) where
       let next = proposed_point_at w (at + k * proposed_point_size) in
       view_step point_of c ps b p o l
       ∙ (λ i. e i ++ cond ((s ∙ ap (stays t d) p) i) (f next ∷ []) [])
+      ∙ sym (staying_next f w at k)
+
+  -- a turn past a point that goes
+  pub gone_step : (f : ProposedPoint → Point) (w : List ℕ) (at k : ℕ) {qs : List Point} → qs ≡ staying t d (map f (proposed_points_at w at k))
+      → stays t d (f (proposed_point_at w (at + k * proposed_point_size))) ≡ false → qs ≡ staying t d (map f (proposed_points_at w at (k + 1)))
+  gone_step f w at k e s =
+      e
+      ∙ sym (append-nil (staying t d (map f (proposed_points_at w at k))))
+      ∙ sym (ap (λ (b : Bool). staying t d (map f (proposed_points_at w at k)) ++ cond b (f (proposed_point_at w (at + k * proposed_point_size)) ∷ []) []) s)
       ∙ sym (staying_next f w at k)
 
 -- ---- manifolds

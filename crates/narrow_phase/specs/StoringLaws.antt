@@ -12,17 +12,14 @@ use Rattle.rows.specs.Rows.{put, each}
 use Rattle.rows.specs.Laws.{length_put, put_next, put_comm}
 use Rattle.rows.specs.EachLaws.{each_append, length_each}
 use Rattle.rows.specs.Slots.{upto}
-use Rattle.rules.specs.Filtering.{moved_point, stays, staying, pruned, filtered, is_empty, without_empty}
+use Rattle.rules.specs.Filtering.{stays, staying, pruned, filtered, is_empty, without_empty}
 use Rattle.rules.specs.Inputs.{ProposedPoint, ProposedManifold}
 use Rattle.rules.specs.Records.{Point, Manifold}
 use Rattle.rules.specs.Sides as sides
 use Rattle.rules.specs.Surface as surfaces
 use Rattle.rules.specs.Update.{hooked, remaining}
 use Rattle.words.specs.Words.{word_at, vec3_at, float_word, vec3_words}
-use Rattle.collider.specs.Views.{plain_side}
-use Rattle.collider.specs.declared.side.Side.{Side}
-use Rattle.contact_parameters.specs.Views.{plain_surface}
-use Rattle.contact_parameters.specs.declared.surface.Surface.{Surface}
+use Rattle.contact_filtering.specs.declared.filtering.Filtering.{Filtering}
 use Rattle.manifold_records.specs.LengthLaws.{length_point, length_manifold}
 use Rattle.manifold_records.specs.StoredLaws.{padded_stored}
 use Rattle.manifold_records.specs.ListLaws.{length_padded}
@@ -33,7 +30,7 @@ use Rattle.layout.specs.Proposal.{proposal_count, proposal_manifolds, proposed_m
 use Rattle.proposals.specs.Recorded.{proposed_point_at, proposed_points_at, proposed_manifold_at, proposal_at}
 use Rattle.narrow_phase.specs.ListLaws.{length_view}
 use Rattle.narrow_phase.specs.StayingLaws.{staying_next, without_empty_next}
-use Rattle.narrow_phase.specs.Views.{first_points, PrunedTo, PointsStored, ManifoldStored, ManifoldsStored}
+use Rattle.narrow_phase.specs.Views.{left_of, filtered_by, first_points, PrunedTo, PointsStored, ManifoldStored, ManifoldsStored}
 use Rattle.narrow_phase.specs.declared.manifold.ManifoldPoints.{ManifoldPoints}
 
 -- ---- structs of n words, stored one after another: one more
@@ -50,21 +47,20 @@ length_next {ℓ} : {A : Type ℓ} (us : List A) (a : A) {c : ℕ} → length us
 length_next us a e = length-append us (a ∷ []) ∙ ap (λ (k : ℕ). k + 1) e
 
 -- ---- points
-module _ (t d : Float) (f : ProposedPoint → Point) (w : List ℕ) (from k : ℕ) (xs : List ℕ) (at c : ℕ) {ys : List ℕ} {q : ContactPoint} {b : Bool}
-    (before : PointsStored (staying t d (map f (proposed_points_at w from k))) at xs ys c) (moved : point_of q ≡ f (proposed_point_at w (from + k * proposed_point_size)))
-    (tested : b ≡ stays t d (point_of q)) where
+module _ (t d : Float) (f : ProposedPoint → Point) (w : List ℕ) (from k : ℕ) (xs : List ℕ) (at c : ℕ) {ys : List ℕ}
+    (before : PointsStored (staying t d (map f (proposed_points_at w from k))) at xs ys c) where
   abbrev stayed : ℕ → List Point
   stayed k = staying t d (map f (proposed_points_at w from k))
 
   abbrev next : Point
   next = f (proposed_point_at w (from + k * proposed_point_size))
 
-  goes_on : (c : Bool) → b ≡ c → stayed (k + 1) ≡ stayed k ++ cond c (next ∷ []) []
-  goes_on c e = staying_next t d f w from k ∙ ap (λ (s : Bool). stayed k ++ cond s (next ∷ []) []) (sym (ap (stays t d) moved) ∙ sym tested ∙ e)
+  goes_on : (s : Bool) → stays t d next ≡ s → stayed (k + 1) ≡ stayed k ++ cond s (next ∷ []) []
+  goes_on s e = staying_next t d f w from k ∙ ap (λ (b : Bool). stayed k ++ cond b (next ∷ []) []) e
 
   -- the point stays, and is stored
-  pub point_stored_lem : {zs : List ℕ} {n : ℕ} → b ≡ true → c < 4 → n ≡ c + 1 → zs ≡ put ys (at + c * 18) (point_words (point_of q)) → PointsStored (stayed (k + 1)) at xs zs n
-  point_stored_lem {zs} {n} e l m s =
+  pub point_stored_lem : {zs : List ℕ} {n : ℕ} {q : ContactPoint} → stays t d next ≡ true → point_of q ≡ next → c < 4 → n ≡ c + 1 → zs ≡ put ys (at + c * 18) (point_words (point_of q)) → PointsStored (stayed (k + 1)) at xs zs n
+  point_stored_lem {zs} {n} e moved l m s =
       subst (λ (ps : List Point). PointsStored ps at xs zs n) (sym (goes_on true e))
       (record {
         words = next_stored point_words 18 length_point xs at (stayed k) c next before.words before.count (s ∙ ap (λ (p : Point). put ys (at + c * 18) (point_words p)) moved);
@@ -73,7 +69,7 @@ module _ (t d : Float) (f : ProposedPoint → Point) (w : List ℕ) (from k : �
       })
 
   -- the point goes
-  pub point_gone : {zs : List ℕ} {n : ℕ} → b ≡ false → n ≡ c → zs ≡ ys → PointsStored (stayed (k + 1)) at xs zs n
+  pub point_gone : {zs : List ℕ} {n : ℕ} → stays t d next ≡ false → n ≡ c → zs ≡ ys → PointsStored (stayed (k + 1)) at xs zs n
   point_gone {zs} {n} e m s =
       subst (λ (ps : List Point). PointsStored ps at xs zs n) (sym (goes_on false e ∙ append-nil (stayed k)))
       (record { words = s ∙ before.words; count = before.count ∙ sym m; few = omega (arith, before.few) })
@@ -129,17 +125,17 @@ whole_stored m at xs {ys} {zs} {us} {c} p z u =
     ∙ put_next xs at front (padded 72 ws) 9 refl
     ∙ ap (λ (k : ℕ). put xs at (shared_words k m.normal m.friction m.restitution m.tangent_velocity ++ padded 72 ws)) (sym p.count)
 
-module _ (w : List ℕ) (from : ℕ) (t : Float) (a b : Side) (f : Surface) (at : ℕ) (xs : List ℕ) {n : ℕ} {normal : Vec3} {ys : List ℕ} {c : ℕ}
+module _ (w : List ℕ) (from : ℕ) (f : Filtering) (at : ℕ) (xs : List ℕ) {n : ℕ} {normal : Vec3} {ys : List ℕ} {c : ℕ}
     (counted : n ≡ word_at w from) (read : normal ≡ vec3_at w (from + proposed_manifold_normal))
-    (stored : PointsStored (pruned normal (staying t f.effective_speculative (map (moved_point (plain_side a) (plain_side b) f.margins normal) (proposed_points_at w (from + proposed_manifold_points) n)))) (at + 9) xs ys c) where
+    (stored : PointsStored (left_of f normal (proposed_points_at w (from + proposed_manifold_points) n)) (at + 9) xs ys c) where
   abbrev left : Manifold
-  left = filtered t (plain_side a) (plain_side b) (plain_surface f) (proposed_manifold_at w from)
+  left = filtered_by f (proposed_manifold_at w from)
 
   points_left : PointsStored left.points (at + 9) xs ys c
   unfolding filtered proposed_manifold_at
   points_left =
       subst (λ (ps : List Point). PointsStored ps (at + 9) xs ys c)
-      (λ j. pruned (read j) (staying t f.effective_speculative (map (moved_point (plain_side a) (plain_side b) f.margins (read j)) (proposed_points_at w (from + proposed_manifold_points) (counted j))))) stored
+      (λ j. left_of f (read j) (proposed_points_at w (from + proposed_manifold_points) (counted j))) stored
 
   -- no point is left
   pub manifold_empty : c ≡ 0 → ManifoldStored left at xs ys 0
@@ -152,12 +148,12 @@ module _ (w : List ℕ) (from : ℕ) (t : Float) (a b : Side) (f : Surface) (at 
         few = omega arith;
       }
 
-  pub manifold_stored_lem : {zs us : List ℕ} → (c ≡ 0 → ⊥) → zs ≡ put ys (at + 9 + c * 18) (zeros (72 - c * 18)) → us ≡ put zs at (shared_words c normal f.friction f.restitution zero3)
+  pub manifold_stored_lem : {zs us : List ℕ} → (c ≡ 0 → ⊥) → zs ≡ put ys (at + 9 + c * 18) (zeros (72 - c * 18)) → us ≡ put zs at (shared_words c normal f.surface.friction f.surface.restitution zero3)
       → ManifoldStored left at xs us c
   unfolding filtered proposed_manifold_at
   manifold_stored_lem {zs} {us} n z u =
       let p = points_left in
-      let whole = whole_stored left at xs p z (u ∙ ap (λ (v : Vec3). put zs at (shared_words c v f.friction f.restitution zero3)) read) in
+      let whole = whole_stored left at xs p z (u ∙ ap (λ (v : Vec3). put zs at (shared_words c v f.surface.friction f.surface.restitution zero3)) read) in
       record {
         words = whole ∙ ap (λ (s : Bool). cond s xs (put xs at (manifold_words left))) (sym (some_left left.points (λ e. n (sym p.count ∙ e))));
         count = p.count;

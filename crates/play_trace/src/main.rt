@@ -3,18 +3,8 @@
 #![tactic(auto)]
 
 use std::io;
-use std::io::{Read, Write};
-use trace_output::{LONGEST_TRACE, print_trace};
-
-// One byte more than is played.
-const MOST_READ: u64 = LONGEST_TRACE as u64 + 1;
+use trace_output::print_read;
 
 fn main(rt: HostRuntime) -> io::Result<()> {
-    let mut text = Vec::new(rt.alloc());
-    rt.stdin().take(MOST_READ).read_to_end(&mut text)?;
-    let mut out = rt.stdout();
-    if text.len() > LONGEST_TRACE {
-        return out.write_all(b"1\n");
-    }
-    print_trace(&mut out, text.as_slice())
+    print_read(rt.alloc(), rt.stdin(), &mut rt.stdout())
 }

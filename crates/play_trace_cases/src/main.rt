@@ -2,24 +2,86 @@
 // it, and the files of data/, with every output by hand and by a player over avian's Rust.
 #![tactic(auto)]
 
-use std::alloc::Global;
 use std::fs::File;
 use std::io;
-use std::io::{Read, Write};
 use std::rt::Files;
-use trace_output::{LONGEST_TRACE, print_trace};
+use trace_output::print_read;
 
-// One byte more than is played.
-const MOST_READ: u64 = LONGEST_TRACE as u64 + 1;
-
-fn print_read<F: Read + Drop, W: Write>(alloc: Global, file: F, out: &mut W) -> io::Result<()> {
-    let mut text = Vec::new(alloc);
-    file.take(MOST_READ).read_to_end(&mut text)?;
-    if text.len() > LONGEST_TRACE {
-        return out.write_all(b"1\n");
-    }
-    print_trace(out, text.as_slice())
-}
+const NAMES: [&str; 73] = [
+    "example",
+    "empty",
+    "out_of_range",
+    "same_collider",
+    "pair_exists",
+    "graph_full",
+    "too_many_manifolds",
+    "too_many_points",
+    "too_many_passed_over",
+    "out_of_range_before_too_many",
+    "out_of_range_at_go",
+    "out_of_range_gone",
+    "out_of_range_no_go",
+    "settings_missing",
+    "replaced",
+    "replaced_body",
+    "replaced_settings",
+    "replaced_out_of_range",
+    "passed_over_out_of_range",
+    "hooks",
+    "manifold_orders",
+    "point_passed_over",
+    "addition_below_manifold",
+    "point_below_addition",
+    "point_below_go",
+    "records_gone",
+    "events_before_changes",
+    "sensor",
+    "count_changes",
+    "bodies_absent",
+    "recycled",
+    "boxes_apart",
+    "zeros_in_front",
+    "largest_number",
+    "number_too_large",
+    "zeros_before_too_large",
+    "lower_case",
+    "nan_patterns",
+    "seven_digits",
+    "nine_digits",
+    "minus",
+    "plus",
+    "dash_for_distance",
+    "dash_for_mark",
+    "dash_for_feature",
+    "dash_for_rule",
+    "two_dashes_for_friction",
+    "letter_unknown",
+    "letter_small",
+    "letter_twice",
+    "empty_line",
+    "doubled_tab",
+    "trailing_tab",
+    "space",
+    "carriage_return",
+    "last_feed_missing",
+    "field_missing",
+    "settings_of_9_fields",
+    "settings_of_12_fields",
+    "settings_tab_at_end",
+    "unreadable_passed_over",
+    "matching",
+    "matching_out_of_range",
+    "matching_replaced_out_of_range",
+    "matching_too_large",
+    "matching_minus",
+    "matching_two_dashes",
+    "matching_tab_at_end",
+    "matching_dash_tab_at_end",
+    "matching_feed_missing",
+    "matching_dash_feed_missing",
+    "longest",
+    "too_long",
+];
 
 // A file that cannot be opened is named on standard error, and passed over.
 fn print_case<R: Files + AllocGlobal + Print + Eprint>(rt: &R, name: &str) -> io::Result<()> {
@@ -31,98 +93,9 @@ fn print_case<R: Files + AllocGlobal + Print + Eprint>(rt: &R, name: &str) -> io
     print_read(rt.alloc(), file, &mut io::writer(rt))
 }
 
-fn print_first<R: Files + AllocGlobal + Print + Eprint>(rt: &R) -> io::Result<()> {
-    print_case(rt, "example")?;
-    print_case(rt, "empty")?;
-    print_case(rt, "out_of_range")?;
-    print_case(rt, "same_collider")?;
-    print_case(rt, "pair_exists")?;
-    print_case(rt, "graph_full")?;
-    print_case(rt, "too_many_manifolds")?;
-    print_case(rt, "too_many_points")?;
-    print_case(rt, "too_many_passed_over")?;
-    print_case(rt, "out_of_range_before_too_many")?;
-    print_case(rt, "out_of_range_at_go")?;
-    print_case(rt, "out_of_range_gone")?;
-    print_case(rt, "out_of_range_no_go")?;
-    print_case(rt, "settings_missing")?;
-    print_case(rt, "replaced")?;
-    print_case(rt, "replaced_body")?;
-    print_case(rt, "replaced_settings")
-}
-
-fn print_second<R: Files + AllocGlobal + Print + Eprint>(rt: &R) -> io::Result<()> {
-    print_case(rt, "replaced_out_of_range")?;
-    print_case(rt, "passed_over_out_of_range")?;
-    print_case(rt, "hooks")?;
-    print_case(rt, "manifold_orders")?;
-    print_case(rt, "point_passed_over")?;
-    print_case(rt, "addition_below_manifold")?;
-    print_case(rt, "point_below_addition")?;
-    print_case(rt, "point_below_go")?;
-    print_case(rt, "records_gone")?;
-    print_case(rt, "events_before_changes")?;
-    print_case(rt, "sensor")?;
-    print_case(rt, "count_changes")?;
-    print_case(rt, "bodies_absent")?;
-    print_case(rt, "recycled")?;
-    print_case(rt, "boxes_apart")?;
-    print_case(rt, "zeros_in_front")?;
-    print_case(rt, "largest_number")
-}
-
-fn print_third<R: Files + AllocGlobal + Print + Eprint>(rt: &R) -> io::Result<()> {
-    print_case(rt, "number_too_large")?;
-    print_case(rt, "zeros_before_too_large")?;
-    print_case(rt, "lower_case")?;
-    print_case(rt, "nan_patterns")?;
-    print_case(rt, "seven_digits")?;
-    print_case(rt, "nine_digits")?;
-    print_case(rt, "minus")?;
-    print_case(rt, "plus")?;
-    print_case(rt, "dash_for_distance")?;
-    print_case(rt, "dash_for_mark")?;
-    print_case(rt, "dash_for_feature")?;
-    print_case(rt, "dash_for_rule")?;
-    print_case(rt, "two_dashes_for_friction")?;
-    print_case(rt, "letter_unknown")?;
-    print_case(rt, "letter_small")?;
-    print_case(rt, "letter_twice")?;
-    print_case(rt, "empty_line")
-}
-
-fn print_fourth<R: Files + AllocGlobal + Print + Eprint>(rt: &R) -> io::Result<()> {
-    print_case(rt, "doubled_tab")?;
-    print_case(rt, "trailing_tab")?;
-    print_case(rt, "space")?;
-    print_case(rt, "carriage_return")?;
-    print_case(rt, "last_feed_missing")?;
-    print_case(rt, "field_missing")?;
-    print_case(rt, "settings_of_9_fields")?;
-    print_case(rt, "settings_of_12_fields")?;
-    print_case(rt, "settings_tab_at_end")?;
-    print_case(rt, "unreadable_passed_over")
-}
-
-fn print_fifth<R: Files + AllocGlobal + Print + Eprint>(rt: &R) -> io::Result<()> {
-    print_case(rt, "matching")?;
-    print_case(rt, "matching_out_of_range")?;
-    print_case(rt, "matching_replaced_out_of_range")?;
-    print_case(rt, "matching_too_large")?;
-    print_case(rt, "matching_minus")?;
-    print_case(rt, "matching_two_dashes")?;
-    print_case(rt, "matching_tab_at_end")?;
-    print_case(rt, "matching_dash_tab_at_end")?;
-    print_case(rt, "matching_feed_missing")?;
-    print_case(rt, "matching_dash_feed_missing")?;
-    print_case(rt, "longest")?;
-    print_case(rt, "too_long")
-}
-
 fn main(rt: HostRuntime) -> io::Result<()> {
-    print_first(&rt)?;
-    print_second(&rt)?;
-    print_third(&rt)?;
-    print_fourth(&rt)?;
-    print_fifth(&rt)
+    for name in NAMES {
+        print_case(&rt, name)?;
+    }
+    Ok(())
 }

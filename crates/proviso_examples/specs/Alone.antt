@@ -1,18 +1,17 @@
 -- The two provisos of the replay apart, along a run, and the claim about the replay under one of them alone. Definitions only.
-use Rattle.std.specs.Prelude.{ℕ, ◌≡◌, T, eqb}
+use Rattle.std.specs.Prelude.{ℕ, ◌≡◌, T, eqb, Result, ⊤, None}
 use mathlib.Core.List.{List, [], ◌∷◌, map, Memᴰ}
-use Rattle.std.proofs.Math.Option.{none}
 use Rattle.rules.specs.Graph.{Graph, empty_graph}
 use Rattle.rules.specs.Inputs.{Inputs}
 use Rattle.rules.specs.Records.{Pair}
 use Rattle.rules.specs.Runs.{Entry, addition, stepping, impulses, plain_call, plain_graph, names_both, keeps_generating, held_in}
 use Rattle.rules.specs.Update.{updated}
 use Rattle.contact_graph.specs.Promises as graph
-use Rattle.contact_graph.specs.Promises.{LaidOut, lay_out_answer}
-use Rattle.contact_graph.specs.declared.lay_out.LayOutAnswer.{LayOutAnswer}
+use Rattle.contact_graph.specs.Promises.{LaidOut, done_answer}
 use Rattle.contact_runs.specs.Runs as runs
 use Rattle.contact_runs.specs.Claim.{plain_of, replay_told}
 use Rattle.contact_runs.specs.Runs.{Outcomes, Run, Ordered}
+use Rattle.contact_types.specs.declared.refusal.Refusal.{Refusal}
 
 -- what is asked of each pair of the graph, at a step with these inputs
 abbrev pub Proviso : Type 1
@@ -44,6 +43,6 @@ Alone P (e ∷ es) g = AloneAt P e g × Alone P es (plain_call e g).graph
 -- the claim about the replay (`Demand3`, `replay`) under this proviso
 abbrev pub ReplayUnder : Proviso → Type 0
 ReplayUnder P =
-    (before : List ℕ) (capacity : ℕ) (g : List ℕ) (r : LayOutAnswer) (es : List runs.Entry) (os : Outcomes es)
-    → LaidOut before capacity g r → lay_out_answer r ≡ graph.done → Run Ordered g es os → Alone P (map plain_of es) (empty_graph capacity)
-    → (id : ℕ) → replay_told os (λ _. none) id ≡ held_in (plain_graph (map plain_of es) (empty_graph capacity)).pairs id
+    (before : List ℕ) (capacity : ℕ) (g : List ℕ) (r : Result ⊤ Refusal) (es : List runs.Entry) (os : Outcomes es)
+    → LaidOut before capacity g r → done_answer r ≡ graph.done → Run Ordered g es os → Alone P (map plain_of es) (empty_graph capacity)
+    → (id : ℕ) → replay_told os (λ _. None) id ≡ held_in (plain_graph (map plain_of es) (empty_graph capacity)).pairs id

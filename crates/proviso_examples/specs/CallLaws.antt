@@ -1,9 +1,8 @@
 -- Both lists have a run, and what the calls of any run have written, replayed, is what the answers of the plain run give.
 -- In the plain run no call is refused, so it is known by the graphs before its steps. Assumes nothing.
-use Rattle.std.specs.Prelude.{ℕ, ◌≡◌, refl, List, [], ◌∷◌, map}
+use Rattle.std.specs.Prelude.{ℕ, ◌≡◌, refl, List, [], ◌∷◌, map, Ok, None}
 use Rattle.std.proofs.Math.Path.{ap}
 use Rattle.std.proofs.Common.{◌∙◌}
-use Rattle.std.proofs.Math.Option.{none}
 use Rattle.rules.specs.Graph.{Graph, empty_graph, new_id, plain_add, pair_index}
 use Rattle.rules.specs.Runs as rules
 use Rattle.rules.specs.Runs.{unless_refused, plain_call, plain_run, plain_graph, Held, manifolds_of, replay_one, replay, held_in}
@@ -13,7 +12,6 @@ use Rattle.manifold_records.specs.Written.{zeros}
 use Rattle.math.specs.Fit.{FitFloat}
 use Rattle.contact_graph.specs.Calls.{addition_of, laid_out}
 use Rattle.contact_graph.specs.Promises.{LaidOut}
-use Rattle.contact_graph.specs.declared.lay_out.LayOutAnswer.TheVariants.{Done}
 use Rattle.step.specs.Step.{Given, inputs}
 use Rattle.contact_runs.specs.Claim.{plain_of, replay_told}
 use Rattle.contact_runs.specs.Runs.{Entry, addition, stepping, Outcomes, Promised, Run, AllFit}
@@ -52,7 +50,7 @@ unfolding opened_rules opened_words opened_plain collider_words colliders body_w
 opened = 0
 
 -- ---- a newly laid out graph of capacity 1
-pub laid : LaidOut (zeros 529) 1 (laid_out 1) Done
+pub laid : LaidOut (zeros 529) 1 (laid_out 1) (Ok tt)
 unfolding opened
 laid = record { answer = refl; graph = refl }
 
@@ -67,10 +65,10 @@ touch_run named x = run_of (laid_out 1) (touch_then named x) (small named, (tt, 
 
 -- ---- the replay of any run
 pub told_plain : (es : List Entry) (os : Outcomes es) → Run Promised (laid_out 1) es os → (id : ℕ)
-    → replay_told os (λ _. none) id ≡ replay_answers (plain_run (map plain_of es) (empty_graph 1)) (λ _. none) id
+    → replay_told os (λ _. None) id ≡ replay_answers (plain_run (map plain_of es) (empty_graph 1)) (λ _. None) id
 told_plain es os k id =
-    ap (λ (h : Held). h id) (run_replays (laid_out 1) (laid_checked (zeros 529) 1 (laid_out 1) Done laid refl) es os k (λ _. none))
-    ∙ ap (λ (g : Graph). replay_answers (plain_run (map plain_of es) g) (λ _. none) id) (laid_plain (zeros 529) 1 (laid_out 1) Done laid refl)
+    ap (λ (h : Held). h id) (run_replays (laid_out 1) (laid_checked (zeros 529) 1 (laid_out 1) (Ok tt) laid refl) es os k (λ _. None))
+    ∙ ap (λ (g : Graph). replay_answers (plain_run (map plain_of es) g) (λ _. None) id) (laid_plain (zeros 529) 1 (laid_out 1) (Ok tt) laid refl)
 
 -- ---- the plain run, where no call is refused
 -- no refusal asks for the bodies that a contact names

@@ -1,8 +1,7 @@
 -- A touching pair may not turn from generating to not: where a collider becomes a sensor, no stop is written, so the replay still holds
 -- the contact. The other proviso holds along the list. Assumes nothing.
-use Rattle.std.specs.Prelude.{◌≡◌, refl, List, [], ◌∷◌, map, pos}
+use Rattle.std.specs.Prelude.{◌≡◌, refl, List, [], ◌∷◌, map, pos, None, Some}
 use Rattle.std.proofs.Common.{ap, ◌∙◌}
-use Rattle.std.proofs.Math.Option.{none, some}
 use Rattle.rules.specs.Graph.{Graph, empty_graph}
 use Rattle.rules.specs.Runs.{After, plain_graph, held_in}
 use Rattle.rule_laws.specs.Replayed.{replay_answers}
@@ -49,17 +48,17 @@ pub sensing_keeps : Alone NamesBoth (map plain_of sensing) (empty_graph 1)
 sensing_keeps = touch_alone 1 (given 1 1) addition_accepted second_accepted NamesBoth first_keeps second_keeps
 
 -- ---- the replay and the graph
-answers_replayed : replay_answers (after_added 1 ∷ after_stepped (given 0 1) (added 1) ∷ after_stepped (given 1 1) (touched 1) ∷ []) (λ _. none) 0 ≡ some (pos 1)
+answers_replayed : replay_answers (after_added 1 ∷ after_stepped (given 0 1) (added 1) ∷ after_stepped (given 1 1) (touched 1) ∷ []) (λ _. None) 0 ≡ Some (pos 1)
 unfolding opened
 answers_replayed = refl
 
-pub sensing_replayed : (os : Outcomes sensing) → Run Promised (laid_out 1) sensing os → replay_told os (λ _. none) 0 ≡ some (pos 1)
+pub sensing_replayed : (os : Outcomes sensing) → Run Promised (laid_out 1) sensing os → replay_told os (λ _. None) 0 ≡ Some (pos 1)
 sensing_replayed os k =
-    told_plain sensing os k 0 ∙ ap (λ (as' : List After). replay_answers as' (λ _. none) 0) (touch_answers 1 (given 1 1) addition_accepted second_accepted) ∙ answers_replayed
+    told_plain sensing os k 0 ∙ ap (λ (as' : List After). replay_answers as' (λ _. None) 0) (touch_answers 1 (given 1 1) addition_accepted second_accepted) ∙ answers_replayed
 
-graph_held : held_in (plain_step (inputs (given 1 1)) (touched 1)).graph.pairs 0 ≡ none
+graph_held : held_in (plain_step (inputs (given 1 1)) (touched 1)).graph.pairs 0 ≡ None
 unfolding opened
 graph_held = refl
 
-pub sensing_held : held_in (plain_graph (map plain_of sensing) (empty_graph 1)).pairs 0 ≡ none
+pub sensing_held : held_in (plain_graph (map plain_of sensing) (empty_graph 1)).pairs 0 ≡ None
 sensing_held = ap (λ (g : Graph). held_in g.pairs 0) (touch_graph 1 (given 1 1) addition_accepted second_accepted) ∙ graph_held

@@ -1,8 +1,7 @@
 -- A generating pair has to name both its bodies: where body 2 is not named, no stop is written when the touch ends, so the replay still holds
 -- the contact. The other proviso holds along the list. Assumes nothing.
-use Rattle.std.specs.Prelude.{◌≡◌, refl, List, [], ◌∷◌, map, pos}
+use Rattle.std.specs.Prelude.{◌≡◌, refl, List, [], ◌∷◌, map, pos, None, Some}
 use Rattle.std.proofs.Common.{ap, ◌∙◌}
-use Rattle.std.proofs.Math.Option.{none, some}
 use Rattle.rules.specs.Graph.{Graph, empty_graph}
 use Rattle.rules.specs.Runs.{After, plain_graph, held_in}
 use Rattle.rule_laws.specs.Replayed.{replay_answers}
@@ -49,17 +48,17 @@ pub unnamed_keeps : Alone KeepsGenerating (map plain_of unnamed) (empty_graph 1)
 unnamed_keeps = touch_alone 0 (given 0 0) addition_accepted second_accepted KeepsGenerating first_keeps second_keeps
 
 -- ---- the replay and the graph
-answers_replayed : replay_answers (after_added 0 ∷ after_stepped (given 0 1) (added 0) ∷ after_stepped (given 0 0) (touched 0) ∷ []) (λ _. none) 0 ≡ some (pos 1)
+answers_replayed : replay_answers (after_added 0 ∷ after_stepped (given 0 1) (added 0) ∷ after_stepped (given 0 0) (touched 0) ∷ []) (λ _. None) 0 ≡ Some (pos 1)
 unfolding opened
 answers_replayed = refl
 
-pub unnamed_replayed : (os : Outcomes unnamed) → Run Promised (laid_out 1) unnamed os → replay_told os (λ _. none) 0 ≡ some (pos 1)
+pub unnamed_replayed : (os : Outcomes unnamed) → Run Promised (laid_out 1) unnamed os → replay_told os (λ _. None) 0 ≡ Some (pos 1)
 unnamed_replayed os k =
-    told_plain unnamed os k 0 ∙ ap (λ (as' : List After). replay_answers as' (λ _. none) 0) (touch_answers 0 (given 0 0) addition_accepted second_accepted) ∙ answers_replayed
+    told_plain unnamed os k 0 ∙ ap (λ (as' : List After). replay_answers as' (λ _. None) 0) (touch_answers 0 (given 0 0) addition_accepted second_accepted) ∙ answers_replayed
 
-graph_held : held_in (plain_step (inputs (given 0 0)) (touched 0)).graph.pairs 0 ≡ none
+graph_held : held_in (plain_step (inputs (given 0 0)) (touched 0)).graph.pairs 0 ≡ None
 unfolding opened
 graph_held = refl
 
-pub unnamed_held : held_in (plain_graph (map plain_of unnamed) (empty_graph 1)).pairs 0 ≡ none
+pub unnamed_held : held_in (plain_graph (map plain_of unnamed) (empty_graph 1)).pairs 0 ≡ None
 unnamed_held = ap (λ (g : Graph). held_in g.pairs 0) (touch_graph 0 (given 0 0) addition_accepted second_accepted) ∙ graph_held

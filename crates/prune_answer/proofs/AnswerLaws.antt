@@ -1,8 +1,7 @@
 -- The answer to a listing is that of `prune` to the row of its points' words; the numbers in it are small. Assumes nothing.
-use Rattle.std.specs.Prelude.{◌≡◌, ℕ, zero, suc, ◌+◌, ◌*◌, ◌≤◌, ◌<◌, Bool, true, false, cond, List, [], ◌∷◌, ◌++◌, ltb, length, get_or, take, replicate}
+use Rattle.std.specs.Prelude.{◌≡◌, ℕ, zero, suc, ◌+◌, ◌*◌, ◌≤◌, ◌<◌, Bool, true, false, cond, List, [], ◌∷◌, ◌++◌, ltb, length, get_or, take, replicate, Option, None, Some}
 use Rattle.std.proofs.Math.Path.{refl, ap}
 use Rattle.std.proofs.Common.{sym, ◌∙◌, le_of_suc-le-suc, not-suc-le-zero, zero-add, add-zero, arith, eq-eqb, ltb-false, length-append, take_all, get_or-append-add}
-use Rattle.std.proofs.Math.Option.{Option, none, some}
 use Rattle.std.proofs.lemmas.List.{length-replicate}
 use Rattle.std.proofs.Math.ListN.{get_or-append}
 use Rattle.rows.specs.Rows.{put, each}
@@ -67,7 +66,7 @@ module _ (ps : List (List ℕ)) (f : Fours ps) (few : length ps ≤ room) where
       kept_same normal (length ps) (λ k. rules.projected normal (prune_point_at (row_of ps) k)) (λ k. rules.projected normal (point_of (get_or ps k [])))
       (λ k h. ap (rules.projected normal) (row_point k h))
 
-pub row_answer : (l : Listing) → Fours l.points → prune_answer (vec3_at l.normal 0) (row_of l.points) (length l.points) ≡ listing_answer (some l)
+pub row_answer : (l : Listing) → Fours l.points → prune_answer (vec3_at l.normal 0) (row_of l.points) (length l.points) ≡ listing_answer (Some l)
 unfolding prune_answer listing_answer
 row_answer l f =
     rw (eq-eqb (length (row_of l.points)) prune_points_length (row_length l.points))
@@ -82,24 +81,24 @@ row_answer l f =
 -- ---- numbers of points that stay
 
 module _ (normal : Vec3) (count : ℕ) (p : ℕ → rules.Projected) where
-  listed_below : (o : Option ℕ) → ((k : ℕ) → o ≡ some k → k < count) → Below count (rules.listed o)
-  listed_below none h = tt
-  listed_below (some k) h = (h k refl, tt)
+  listed_below : (o : Option ℕ) → ((k : ℕ) → o ≡ Some k → k < count) → Below count (rules.listed o)
+  listed_below None h = tt
+  listed_below (Some k) h = (h k refl, tt)
 
-  beside_below : (i : ℕ) (o : Option ℕ) → i < count → ((j : ℕ) → o ≡ some j → j < count) → Below count (rules.kept_beside normal count p i o)
+  beside_below : (i : ℕ) (o : Option ℕ) → i < count → ((j : ℕ) → o ≡ Some j → j < count) → Below count (rules.kept_beside normal count p i o)
   unfolding rules.kept_beside
-  beside_below i none h b = (h, tt)
-  beside_below i (some j) h b = (
+  beside_below i None h b = (h, tt)
+  beside_below i (Some j) h b = (
     h,
     below_append count (rules.listed (rules.point3 normal count p i j)) (j ∷ rules.listed (rules.point4 normal count p i j))
         (listed_below (rules.point3 normal count p i j) (point3_below count p normal i j))
         (b j refl, listed_below (rules.point4 normal count p i j) (point4_below count p normal i j)),
   )
 
-  from_below : (o : Option ℕ) → ((i : ℕ) → o ≡ some i → i < count) → Below count (rules.kept_from normal count p o)
+  from_below : (o : Option ℕ) → ((i : ℕ) → o ≡ Some i → i < count) → Below count (rules.kept_from normal count p o)
   unfolding rules.kept_from
-  from_below none b = tt
-  from_below (some i) b = beside_below i (rules.point2 count p i) (b i refl) (point2_below count p i)
+  from_below None b = tt
+  from_below (Some i) b = beside_below i (rules.point2 count p i) (b i refl) (point2_below count p i)
 
 pub kept_below : (normal : Vec3) (count : ℕ) (point : ℕ → rules.PrunePoint) → Below count (rules.kept normal count point)
 unfolding rules.kept

@@ -1,6 +1,5 @@
 -- The answer to a text: the specification, 'Prune listing' and 'Matching and pruning'. Definitions only.
-use Rattle.std.specs.Prelude.{ℕ, ◌+◌, ◌≤◌, ◌<◌, ◌≡◌, cond, List, [], ◌∷◌, ltb, length, get_or, take}
-use Rattle.std.proofs.Math.Option.{Option, none, some}
+use Rattle.std.specs.Prelude.{ℕ, ◌+◌, ◌≤◌, ◌<◌, ◌≡◌, cond, List, [], ◌∷◌, ltb, length, get_or, take, Option, None, Some}
 use Rattle.rows.specs.Rows.{each}
 use Rattle.words.specs.Words.{float_at, vec3_at}
 use Rattle.rules.specs.Pruning.{PrunePoint, kept}
@@ -17,8 +16,8 @@ point_of words = record { anchor1 = vec3_at words prune_point_anchor1; penetrati
 
 -- refusal 1 if the text is unreadable, 8 if it has too few points, 6 if it has too many
 unfoldable pub listing_answer : Option Listing → Answer (List ℕ)
-listing_answer none = refused 1
-listing_answer (some l) =
+listing_answer None = refused 1
+listing_answer (Some l) =
     let count : ℕ = length l.points in
     cond (ltb count (stored_points + 1)) (refused 8) (cond (ltb proposed_points count) (refused 6) (keeps (kept (vec3_at l.normal 0) count (λ k. point_of (get_or l.points k [])))))
 

@@ -1,7 +1,6 @@
 -- C1 of the specification, from its text to the lines that it prints. Assumes nothing.
-use Rattle.std.specs.Prelude.{◌≡◌, [], ◌∷◌}
+use Rattle.std.specs.Prelude.{◌≡◌, [], ◌∷◌, Option}
 use Rattle.std.proofs.Common.{ap}
-use Rattle.std.proofs.Math.Option.{Option}
 use Rattle.std.specs.Float.Ieee.{of_bits, lt, is_nan, add, sub, mul}
 use Rattle.math.specs.Choose.{maximum}
 use Rattle.math.specs.Vec.{◌-v◌, ◌*v◌, dot, cross, squared_length, squared_distance, reject}

@@ -1,11 +1,12 @@
 -- Lines written one after another, and numbers below a bound. Assumes nothing.
 use Rattle.std.specs.Prelude.{◌≡◌, refl, ℕ, zero, suc, ◌+◌, ◌*◌, ◌≤◌, ◌<◌, List, [], ◌∷◌, ◌++◌, length, get_or, take}
-use Rattle.std.proofs.Common.{sym, ap, ap₂, ◌∙◌, le_of_suc-le-suc, not-suc-le-zero, add-one, arith, append-nil, length-append, length-take, take-suc, take_all, get_or-take}
+use Rattle.std.proofs.Common.{ap, ◌∙◌, le_of_suc-le-suc, not-suc-le-zero, add-one, arith, append-nil, length-append, take-suc, take_all}
 use Rattle.rows.specs.Rows.{put, each}
-use Rattle.rows.specs.Laws.{length_put, put_append}
+use Rattle.rows.specs.Laws.{length_put}
 use Rattle.rows.specs.EachLaws.{each_append}
 use Rattle.prune_listing.specs.Lines.{decimal, kept_line}
 use Rattle.text.specs.Text.{Written}
+use Rattle.text.specs.WrittenLaws.{written_then}
 use Rattle.prune_listing.specs.LinesLaws.{decimal_short}
 use Rattle.prune_answer.specs.Answer.{Below}
 
@@ -26,43 +27,35 @@ below_more n m (x ∷ xs) h b = (omega (arith, b.0), below_more n m xs h b.1)
 
 -- ---- lines
 
--- the lines of k of the numbers are written, of which `count` are to be
-abbrev pub LinesTo : List ℕ → List ℕ → ℕ → List ℕ → ℕ → ℕ → Type 0
-LinesTo out₀ numbers count out at k = (k ≤ 4) × (k ≤ count) × (length out ≡ length out₀) × (at ≤ 6 * k) × Written out₀ 0 (each kept_line (take k numbers)) out at
+-- the lines of k of the numbers are written
+pub record LinesTo (before numbers out : List ℕ) (at k : ℕ) : Type 0 where
+  pub inside : k ≤ length numbers
+  pub size : length out ≡ length before
+  pub short : at ≤ 6 * k
+  pub written : Written before 0 (each kept_line (take k numbers)) out at
 
-pub lines_none : (out numbers : List ℕ) (count : ℕ) → LinesTo out numbers count out 0 0
+pub lines_none : (out numbers : List ℕ) → LinesTo out numbers out 0 0
 unfolding put
-lines_none out numbers count = (omega arith, omega arith, refl, omega arith, record { count = refl; stored = refl })
+lines_none out numbers = record { inside = omega arith; size = refl; short = omega arith; written = record { count = refl; stored = refl } }
 
-module _ (out₀ numbers : List ℕ) (count : ℕ) (out : List ℕ) (at k : ℕ) (so_far : LinesTo out₀ numbers count out at k) where
-  pub lines_next : {out' : List ℕ} {at' : ℕ} → k < 4 → k < count → length numbers ≡ 4 → Written out at (kept_line (get_or numbers k 0)) out' at' → LinesTo out₀ numbers count out' at' (k + 1)
-  lines_next {out'} {at'} h l four w =
+module _ (before numbers out : List ℕ) (at k : ℕ) (so_far : LinesTo before numbers out at k) where
+  pub lines_next : {out' : List ℕ} {at' : ℕ} → k < length numbers → Written out at (kept_line (get_or numbers k 0)) out' at' → LinesTo before numbers out' at' (k + 1)
+  lines_next {out'} {at'} h w =
       let n = get_or numbers k 0 in
       let now = each kept_line (take k numbers) in
       let e : each kept_line (take (k + 1) numbers) ≡ now ++ kept_line n =
-      ap (λ (m : ℕ). each kept_line (take m numbers)) (add-one k) ∙ ap (each kept_line) (take-suc numbers k 0 (omega arith)) ∙ each_append kept_line (take k numbers) (n ∷ [])
+      ap (λ (m : ℕ). each kept_line (take m numbers)) (add-one k) ∙ ap (each kept_line) (take-suc numbers k 0 h) ∙ each_append kept_line (take k numbers) (n ∷ [])
       ∙ ap (λ (bs : List ℕ). now ++ bs) (append-nil (kept_line n)) in
-      let s = so_far.4 in (
-        omega arith,
-        omega arith,
-        ap length w.stored ∙ length_put out at (kept_line n) ∙ so_far.2,
-        omega (arith, w.count, decimal_short n, length-append (decimal n) (10 ∷ []), so_far.3),
-        record {
-          count = omega (arith, w.count, s.count, ap length e ∙ length-append now (kept_line n));
-          stored = w.stored ∙ ap₂ (λ (xs : List ℕ) (i : ℕ). put xs i (kept_line n)) s.stored s.count ∙ sym (put_append out₀ 0 now (kept_line n)) ∙ ap (put out₀ 0) (sym e);
-        },
-      )
+      record {
+        inside = omega (arith, h);
+        size = ap length w.stored ∙ length_put out at (kept_line n) ∙ so_far.size;
+        short = omega (arith, w.count, decimal_short n, length-append (decimal n) (10 ∷ []), so_far.short);
+        written = rw e (written_then now (kept_line n) so_far.written w);
+      }
 
-  -- a number that is to be written has three digits at most
-  pub next_small : k < 4 → k < count → length numbers ≡ 4 → Below 1000 (take count numbers) → get_or numbers k 0 < 1000
-  next_small h l four b = rw (get_or-take count numbers k 0 l) at (below_at 1000 (take count numbers) k b (omega (arith, length-take count numbers)))
+  -- there is room for one more line, and its number has three digits at most
+  pub next_fits : k < length numbers → 6 * length numbers ≤ length before → Below 1000 numbers → (get_or numbers k 0 < 1000) × (at + 6 ≤ length out)
+  next_fits h room small = (below_at 1000 numbers k small h, omega (arith, h, room, so_far.short, so_far.size))
 
-  pub lines_all : (4 ≤ k) → length numbers ≡ 4 → Written out₀ 0 (each kept_line (take count numbers)) out at
-  lines_all h four =
-      let e : take k numbers ≡ take count numbers = take_all k numbers (omega arith) ∙ sym (take_all count numbers (omega (arith, so_far.1))) in
-      rw e at so_far.4
-
-  pub lines_counted : count ≤ k → Written out₀ 0 (each kept_line (take count numbers)) out at
-  lines_counted h =
-      let e : k ≡ count = omega (arith, so_far.1) in
-      rw e at so_far.4
+  pub lines_all : length numbers ≤ k → Written before 0 (each kept_line numbers) out at
+  lines_all h = rw (take_all k numbers h) at so_far.written

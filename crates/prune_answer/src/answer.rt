@@ -1,35 +1,40 @@
 // A text is read, its points are pruned, and the lines are written.
-ghost use Rattle.std.specs.Prelude.{◌≤◌, length};
+ghost use Rattle.std.specs.Prelude.{◌≡◌, ◌*◌, ◌≤◌, length, IfOk};
 ghost use Rattle.rows.specs.Rows.{each};
-ghost use Rattle.contact_types.specs.Pruned.{kept_of};
+ghost use Rattle.contact_types.specs.PruneLaws.{plain_answer};
+ghost use Rattle.prune_listing.specs.Listing.{listing};
 ghost use Rattle.prune_listing.specs.Lines.{kept_line};
 ghost use Rattle.text.specs.Text.{Written};
-ghost use Rattle.prune_answer.specs.Answer.{Below, Answered};
+ghost use Rattle.prune_answer.specs.Answer.{Below, Answered, listing_answer};
 
-use contact_types::prune::{PruneAnswer, prune};
+use contact_types::prune::prune;
 use contact_types::pruning::KeptPoints;
+use contact_types::refusal::Refusal;
 use layout::prune::PRUNE_POINTS_LENGTH;
-use math::bits::float_of;
 use math::vec::Vec3;
-use prune_listing::reader::{Reading, read_listing};
+use prune_listing::reader::read_listing;
 use prune_listing::writer::{write_kept, write_refused};
+use words::load::load;
+
+// What pruning answers to the points of a text. An unreadable text is refused as a row of another length is.
+fn prune_text(text: &[u8]) -> Result<KeptPoints, Refusal>
+    ensures answer { plain_answer result ≡ listing_answer (listing text.now) }
+    ensures few { IfOk result (λ kept. kept.count ≤ 4) }
+{
+    let mut points = [0u32; PRUNE_POINTS_LENGTH];
+    let header = read_listing(text, &mut points).ok_or(Refusal::WrongLength)?;
+    prune(load::<Vec3>(&header.normal, 0), &points, header.count)
+}
 
 // A line for each kept number.
-fn write_all_kept(out: &mut [u8], kept: KeptPoints) -> usize
-    requires { (24 ≤ length out.old) × Below 1000 (kept_of kept) }
-    ensures { Written out.old 0 (each kept_line (kept_of kept)) out.new result }
+fn write_all_kept(out: &mut [u8], numbers: &[u32]) -> usize
+    requires room { 6 * length numbers.now ≤ length out.old }
+    requires small { Below 1000 numbers.now }
+    ensures { Written out.old 0 (each kept_line numbers.now) out.new result }
 {
-    let numbers = [kept.first, kept.second, kept.third, kept.fourth];
-    let count = kept.count as usize;
     let mut at = 0;
-    let mut k = 0;
-    while k < 4 {
-        if k >= count {
-            return at;
-        }
-        let n = numbers[k];
-        at = write_kept(out, at, n);
-        k += 1;
+    for n in numbers {
+        at = write_kept(out, at, *n);
     }
     at
 }
@@ -38,17 +43,11 @@ fn write_all_kept(out: &mut [u8], kept: KeptPoints) -> usize
 pub fn answer(text: &[u8], out: &mut [u8; 24]) -> usize
     ensures { Answered text.now out.old out.new result }
 {
-    let mut points = [0u32; PRUNE_POINTS_LENGTH];
-    let Reading::Read(header) = read_listing(text, &mut points) else {
-        return write_refused(out, 0, 1);
-    };
-    let normal = Vec3 {
-        x: float_of(header.x),
-        y: float_of(header.y),
-        z: float_of(header.z),
-    };
-    match prune(normal, &points, header.count) {
-        PruneAnswer::Kept(kept) => write_all_kept(out, kept),
-        PruneAnswer::Refused(refusal) => write_refused(out, 0, refusal.number()),
+    match prune_text(text) {
+        Ok(kept) => {
+            let numbers = [kept.first, kept.second, kept.third, kept.fourth];
+            write_all_kept(out, &numbers[..kept.count as usize])
+        }
+        Err(refusal) => write_refused(out, 0, refusal.number()),
     }
 }

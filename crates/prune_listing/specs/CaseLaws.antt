@@ -1,6 +1,5 @@
 -- Texts and what they read to: C1 of the specification, what may differ, and what is unreadable. Assumes nothing.
-use Rattle.std.specs.Prelude.{◌≡◌, refl, ℕ, List, [], ◌∷◌, ◌++◌, map, take, drop}
-use Rattle.std.proofs.Math.Option.{none, some}
+use Rattle.std.specs.Prelude.{◌≡◌, refl, ℕ, List, [], ◌∷◌, ◌++◌, map, take, drop, None, Some}
 use Rattle.rows.specs.Rows.{each}
 use Rattle.text.specs.Text.{expect, hex_digit, digits, word}
 use Rattle.prune_listing.specs.Listing.{Listing, field, fields, line_end, line, normal_line, point_line, at_end, point_lines, all_points, listing}
@@ -51,14 +50,14 @@ c1_listing =
           ∷ (0 ∷ 0xbf80_0000 ∷ 0 ∷ 0x3f80_0000 ∷ []) ∷ (0x3f80_0000 ∷ 0 ∷ 0 ∷ 0x3f80_0000 ∷ []) ∷ [];
     }
 
-pub c1_reads : listing c1 ≡ some c1_listing
+pub c1_reads : listing c1 ≡ Some c1_listing
 unfolding expect hex_digit digits word field fields line_end line normal_line point_line at_end point_lines all_points listing
 c1_reads = refl
 
 -- ---- what may differ
 
 -- the last line feed may be missing
-pub c1_open : listing c1_lines ≡ some c1_listing
+pub c1_open : listing c1_lines ≡ Some c1_listing
 unfolding expect hex_digit digits word field fields line_end line normal_line point_line at_end point_lines all_points listing
 c1_open = refl
 
@@ -71,12 +70,12 @@ unreadable =
     [] ∷ feed ∷ p f0 f1 ∷ (up ++ feed ++ up) ∷ (up ++ feed ++ feed) ∷ (up ++ 13 ∷ feed) ∷ (78 ∷ 32 ∷ drop 1 f0 ++ f0 ++ f1) ∷ (up ++ 32 ∷ feed)
     ∷ (78 ∷ f0 ++ f1) ∷ (up ++ f0) ∷ (78 ∷ f0 ++ f0 ++ take 8 f1) ∷ (up ++ 48 ∷ []) ∷ (78 ∷ f0 ++ f0 ++ take 8 f1 ++ 71 ∷ []) ∷ (80 ∷ f0 ++ f0 ++ f1) ∷ []
 
-pub unreadable_texts : map listing unreadable ≡ map (λ text. none) unreadable
+pub unreadable_texts : map listing unreadable ≡ map (λ text. None) unreadable
 unfolding expect hex_digit digits word field fields line_end line normal_line point_line at_end point_lines all_points listing
 unreadable_texts = refl
 
 -- the N line alone is a listing of no points
-pub no_points : listing up ≡ some (record { normal = 0 ∷ 0 ∷ 0x3f80_0000 ∷ []; points = [] })
+pub no_points : listing up ≡ Some (record { normal = 0 ∷ 0 ∷ 0x3f80_0000 ∷ []; points = [] })
 unfolding expect hex_digit digits word field fields line_end line normal_line point_line at_end point_lines all_points listing
 no_points = refl
 

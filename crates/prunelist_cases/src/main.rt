@@ -11,6 +11,30 @@ use std::rt::Files;
 // One byte more than is read: a text that fills it is too long.
 const MOST_READ: u64 = 65537;
 
+const NAMES: [&str; 21] = [
+    "c1",
+    "c2_five_equal",
+    "c3_two_equal",
+    "c4_nan",
+    "four_points",
+    "most_points",
+    "too_many_points",
+    "33_points",
+    "normal_alone",
+    "lower_case",
+    "last_feed_missing",
+    "unreadable_after_33",
+    "carriage_return",
+    "empty",
+    "empty_line",
+    "extra_field",
+    "seven_digits",
+    "space",
+    "two_normals",
+    "no_normal",
+    "too_long",
+];
+
 // A file that cannot be opened is named on standard error, and passed over.
 fn print_case<R: Files + AllocGlobal + Print + Eprint>(rt: &R, name: &str) -> io::Result<()> {
     let file = match File::open(rt, name) {
@@ -26,25 +50,8 @@ fn print_case<R: Files + AllocGlobal + Print + Eprint>(rt: &R, name: &str) -> io
 }
 
 fn main(rt: HostRuntime) -> io::Result<()> {
-    print_case(&rt, "c1")?;
-    print_case(&rt, "c2_five_equal")?;
-    print_case(&rt, "c3_two_equal")?;
-    print_case(&rt, "c4_nan")?;
-    print_case(&rt, "four_points")?;
-    print_case(&rt, "most_points")?;
-    print_case(&rt, "too_many_points")?;
-    print_case(&rt, "33_points")?;
-    print_case(&rt, "normal_alone")?;
-    print_case(&rt, "lower_case")?;
-    print_case(&rt, "last_feed_missing")?;
-    print_case(&rt, "unreadable_after_33")?;
-    print_case(&rt, "carriage_return")?;
-    print_case(&rt, "empty")?;
-    print_case(&rt, "empty_line")?;
-    print_case(&rt, "extra_field")?;
-    print_case(&rt, "seven_digits")?;
-    print_case(&rt, "space")?;
-    print_case(&rt, "two_normals")?;
-    print_case(&rt, "no_normal")?;
-    print_case(&rt, "too_long")
+    for name in NAMES {
+        print_case(&rt, name)?;
+    }
+    Ok(())
 }

@@ -1,11 +1,10 @@
 -- The replay claim from the answers alone: a start's number may be read in the graph that its step left, since the pass changes no manifolds
 -- and removes no pair that it has started. Assumes nothing.
-use Rattle.std.specs.Prelude.{ℕ, zero, suc, ◌≡◌, Bool, cond, eqb, T, length, ℤ, pos}
+use Rattle.std.specs.Prelude.{ℕ, zero, suc, ◌≡◌, Bool, cond, eqb, T, length, ℤ, pos, Option, None, Some}
 use Rattle.std.proofs.Math.Path.{refl, sym, ap, subst}
 use Rattle.std.proofs.Common.{◌∙◌, arith}
 use Rattle.std.proofs.Math.Bool.{true, false}
 use mathlib.Core.List.{List, [], ◌∷◌, Memᴰ}
-use Rattle.std.proofs.Math.Option.{Option, none, some}
 use Rattle.rules.specs.Inputs.{Inputs}
 use Rattle.rules.specs.Records.{Pair, Names}
 use Rattle.rules.specs.Update.{updated}
@@ -26,19 +25,19 @@ module _ (ps qs : List Pair) (h : Held) (k id c d : ℕ) where
   stop_either : (g : Bool) (a b : Option ℕ) → replay ps (stop_if g (naming id c d a b)) h k ≡ replay qs (stop_if g (naming id c d a b)) h k
   unfolding replay replay_one
   stop_either false a b = refl
-  stop_either true none b = refl
-  stop_either true (some x) none = refl
-  stop_either true (some x) (some y) = refl
+  stop_either true None b = refl
+  stop_either true (Some x) None = refl
+  stop_either true (Some x) (Some y) = refl
 
   count_either : (e : ℤ) (a b : Option ℕ) → replay ps (count_of (naming id c d a b) e) h k ≡ replay qs (count_of (naming id c d a b) e) h k
   unfolding replay replay_one
-  count_either e none b = refl
-  count_either e (some x) none = refl
-  count_either e (some x) (some y) = refl
+  count_either e None b = refl
+  count_either e (Some x) None = refl
+  count_either e (Some x) (Some y) = refl
 
   start_either : (g : Bool) → manifolds_of id ps ≡ manifolds_of id qs → replay ps (cond g (start id ∷ []) []) h k ≡ replay qs (cond g (start id ∷ []) []) h k
   unfolding replay replay_one
-  start_either true e = ap (λ (m : ℤ). holding h id (some m) k) e
+  start_either true e = ap (λ (m : ℤ). holding h id (Some m) k) e
   start_either false e = refl
 
 -- the pair that is left, if any, has the manifolds that it had
@@ -46,7 +45,7 @@ abbrev size_of : Option Pair → Option ℕ
 size_of o = mapped (λ (p : Pair). length p.manifolds) o
 
 changes_for_either : (ps qs : List Pair) (h : Held) (k : ℕ) (v : Verdict) (p : Pair) →
-    (size_of (next v p) ≡ some (length p.manifolds) → manifolds_of p.names.id ps ≡ manifolds_of p.names.id qs) → replay ps (changes_for v p) h k ≡ replay qs (changes_for v p) h k
+    (size_of (next v p) ≡ Some (length p.manifolds) → manifolds_of p.names.id ps ≡ manifolds_of p.names.id qs) → replay ps (changes_for v p) h k ≡ replay qs (changes_for v p) h k
 unfolding replay
 changes_for_either ps qs h k vanishes p f =
     stop_either ps qs h k p.names.id p.names.collider1 p.names.collider2 p.flags.generate_constraints p.names.body1 p.names.body2
@@ -58,16 +57,16 @@ changes_for_either ps qs h k recounts p f =
     count_either ps qs h k p.names.id p.names.collider1 p.names.collider2 p.count_change p.names.body1 p.names.body2
 changes_for_either ps qs h k persists p f = refl
 
-size_count : (o : Option Pair) (n : ℕ) → size_of o ≡ some n → count_at o ≡ pos n
-size_count none n e = absurd (let z : ◌≡◌ {A = ℕ} 0 1 = cc in omega arith)
-size_count (some p) n e = let f : length p.manifolds ≡ n = cc in ap {B = ℤ} pos f
+size_count : (o : Option Pair) (n : ℕ) → size_of o ≡ Some n → count_at o ≡ pos n
+size_count None n e = absurd (let z : ◌≡◌ {A = ℕ} 0 1 = cc in omega arith)
+size_count (Some p) n e = let f : length p.manifolds ≡ n = cc in ap {B = ℤ} pos f
 
 module _ (i : Inputs) (g : Graph) (s : Sound g) (h : Held) where
   -- a pair that is found, by whether its bit stands
-  either_some : (p : Pair) → find p.names.id g.pairs ≡ some p → (t : Bool) →
+  either_some : (p : Pair) → find p.names.id g.pairs ≡ Some p → (t : Bool) →
       find p.names.id (pass_end i g).graph.pairs ≡ outcome_of (updated i p).pair t →
-      cond t (replay (after_updates i g) (visit_changes (some (updated i p).pair)) h p.names.id) (h p.names.id)
-      ≡ cond t (replay (pass_end i g).graph.pairs (visit_changes (some (updated i p).pair)) h p.names.id) (h p.names.id)
+      cond t (replay (after_updates i g) (visit_changes (Some (updated i p).pair)) h p.names.id) (h p.names.id)
+      ≡ cond t (replay (pass_end i g).graph.pairs (visit_changes (Some (updated i p).pair)) h p.names.id) (h p.names.id)
   either_some p e false f = refl
   either_some p e true f =
       let q = (updated i p).pair in
@@ -83,11 +82,11 @@ module _ (i : Inputs) (g : Graph) (s : Sound g) (h : Held) where
   either k = go (find k g.pairs) refl
     where
       go : (o : Option Pair) → find k g.pairs ≡ o → replay (after_updates i g) (pass_end i g).changes h k ≡ replay (pass_end i g).graph.pairs (pass_end i g).changes h k
-      go none e = (pass i g s).silent (after_updates i g) h k (bits i g s k none e) ∙ sym ((pass i g s).silent (pass_end i g).graph.pairs h k (bits i g s k none e))
-      go (some p) e =
+      go None e = (pass i g s).silent (after_updates i g) h k (bits i g s k None e) ∙ sym ((pass i g s).silent (pass_end i g).graph.pairs h k (bits i g s k None e))
+      go (Some p) e =
           let n : p.names.id ≡ k = find_id k g.pairs p e in
-          let e' : find p.names.id g.pairs ≡ some p = ap (λ (k : ℕ). find k g.pairs) n ∙ e in
-          let z = bits i g s p.names.id (some p) e' in
+          let e' : find p.names.id g.pairs ≡ Some p = ap (λ (k : ℕ). find k g.pairs) n ∙ e in
+          let z = bits i g s p.names.id (Some p) e' in
           subst (λ (k : ℕ). replay (after_updates i g) (pass_end i g).changes h k ≡ replay (pass_end i g).graph.pairs (pass_end i g).changes h k) n
           (end_replayed i g s (after_updates i g) h p.names.id p e' (updated i p).bit z
           ∙ either_some p e' (updated i p).bit (end_find i g s p.names.id p e' (updated i p).bit z)
@@ -130,4 +129,4 @@ run_answers (e ∷ es) g h s w p q =
 
 pub answers_replay_holds : AnswersReplayHolds
 answers_replay_holds n es p q id =
-    run_answers es (empty_graph n) (λ _. none) (empty_sound n) (empty_holds n) p q id ∙ sym (held_in_at (plain_graph es (empty_graph n)).pairs id)
+    run_answers es (empty_graph n) (λ _. None) (empty_sound n) (empty_holds n) p q id ∙ sym (held_in_at (plain_graph es (empty_graph n)).pairs id)

@@ -1,6 +1,5 @@
 -- The proved cases of the specification ('Prune listing') as one table, with a theorem for the whole. Assumes nothing.
-use Rattle.std.specs.Prelude.{ℕ, ◌≡◌, refl, Bool, true, false, cond, List, [], ◌∷◌, ◌++◌, map, Float, length, get_or}
-use Rattle.std.proofs.Math.Option.{none, some}
+use Rattle.std.specs.Prelude.{ℕ, ◌≡◌, refl, Bool, true, false, cond, List, [], ◌∷◌, ◌++◌, map, Float, length, get_or, None, Some}
 use Rattle.std.specs.Float.{binary32, nan}
 use Rattle.std.specs.Float.Ieee.{of_bits, to_bits, lt, le, is_nan, add, sub, mul, neg}
 use Rattle.math.specs.Constants.{bits, zero_f, half, one}
@@ -43,9 +42,9 @@ at_rest swept =
       pose = record { position = zero3; rotation = identity };
       linear_velocity = zero3;
       angular_velocity = zero3;
-      friction = none;
-      margin = none;
-      speculative_maximum = none;
+      friction = None;
+      margin = None;
+      speculative_maximum = None;
       sweep_radius = bits swept;
     }
 
@@ -95,7 +94,7 @@ abbrev pub outcome : Case → List ℕ
 outcome (prunes normal ps) = kept normal (length ps) (λ k. get_or ps k (record { anchor1 = vec3 nan nan nan; penetration = nan }))
 outcome (roots n) = to_bits binary32 (root (bits n)) ∷ []
 outcome (takes place square new olds) = listed (source (feature_rule place) square olds new) ++ to_bits binary32 (matched_point (feature_rule place) square olds new).warm_start_normal ∷ []
-outcome (recycled distance x swept) = mark (recycles (settings_with distance) true (at_rest swept) (at_rest swept) (some (cached_at x))) ∷ []
+outcome (recycled distance x swept) = mark (recycles (settings_with distance) true (at_rest swept) (at_rest swept) (Some (cached_at x))) ∷ []
 outcome (stayed penetration distance speed) = mark (stays one (bits distance) (moving penetration speed)) ∷ []
 
 -- a case by its C number, and what it must give

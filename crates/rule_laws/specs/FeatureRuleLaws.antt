@@ -1,9 +1,8 @@
 -- By number and by place: what the matching setting changes, and what it does not. Assumes nothing.
-use Rattle.std.specs.Prelude.{ℕ, ◌<◌, ◌≡◌, refl, Bool, true, false, not, ◌&&◌, ◌||◌, length, get_or, Float}
+use Rattle.std.specs.Prelude.{ℕ, ◌<◌, ◌≡◌, refl, Bool, true, false, not, ◌&&◌, ◌||◌, length, get_or, Float, Option, None, Some}
 use Rattle.std.proofs.Common.{sym, ◌∙◌}
 use Rattle.std.proofs.Math.Path.{ap}
 use mathlib.Core.List.{List, [], ◌∷◌, map}
-use Rattle.std.proofs.Math.Option.{Option, none, some}
 use Rattle.math.specs.Floats.{◌⊗◌}
 use Rattle.rules.specs.Numbers.{first}
 use Rattle.rules.specs.Records.{Point, Manifold}
@@ -42,7 +41,7 @@ module _ (square : Float) (olds : List Point) (new : Point) where
   place_unknown_source e = first_same _ _ (length olds) (λ i l. place_unknown e (get_or olds i new))
 
   -- what it takes is an old point's with close anchors
-  pub place_unknown_close : unknown new ≡ true → (k : ℕ) → source by_place square olds new ≡ some k → anchors_match square new (get_or olds k new) ≡ true
+  pub place_unknown_close : unknown new ≡ true → (k : ℕ) → source by_place square olds new ≡ Some k → anchors_match square new (get_or olds k new) ≡ true
   place_unknown_close e k h = first_passes (λ i. anchors_match square new (get_or olds i new)) (length olds) k (sym (place_unknown_source e) ∙ h)
 
   -- and where no old point has these, it takes nothing
@@ -58,8 +57,8 @@ AllKnown (p ∷ ps) = (unknown p ≡ false) × AllKnown ps
 
 module _ (square : Float) (olds : List Point) where
   taken_features : (p : Point) (o : Option ℕ) → unknown (taking olds p o) ≡ unknown p
-  taken_features p none = refl
-  taken_features p (some k) = refl
+  taken_features p None = refl
+  taken_features p (Some k) = refl
 
   matched_known : (ps : List Point) → AllKnown ps → AllKnown (map (matched_point by_number square olds) ps)
   unfolding matched_point

@@ -1,4 +1,5 @@
 pub mod NumberLaws
+pub mod AllLaws
 pub mod MatchingLaws
 pub mod FeatureRuleLaws
 pub mod PruningLaws

@@ -1,9 +1,8 @@
 -- Lists of pairs by their ids: looking one up, counting an id, and what swap-removal does to both. Assumes nothing.
-use Rattle.std.specs.Prelude.{ℕ, zero, suc, ◌+◌, ◌-◌, ◌≤◌, ◌≡◌, refl, ◌≢◌, ◌⊎◌, Bool, true, false, cond, eqb, T, length, get_or, take, set}
+use Rattle.std.specs.Prelude.{ℕ, zero, suc, ◌+◌, ◌-◌, ◌≤◌, ◌≡◌, refl, ◌≢◌, ◌⊎◌, Bool, true, false, cond, eqb, T, length, get_or, take, set, Option, None, Some}
 use Rattle.std.proofs.Common.{sym, ap, ◌∙◌, inl, inr, arith, eqb→eq, length-append}
 use mathlib.Core.List.Memᴰ
 use mathlib.Core.List.{List, [], ◌∷◌, map, ◌++◌, Memᴰ}
-use Rattle.std.proofs.Math.Option.{Option, none, some}
 use Rattle.std.proofs.Math.Dec.{eqb_refl}
 use Rattle.rules.specs.Records.{Pair, Names}
 use Rattle.rules.specs.Graph.{pair_index, swap_remove}
@@ -43,16 +42,16 @@ abbrev pub ids : List Pair → List ℕ
 ids ps = map (λ (p : Pair). p.names.id) ps
 
 unfoldable pub find : ℕ → List Pair → Option Pair
-find k [] = none
-find k (p ∷ ps) = cond (eqb p.names.id k) (some p) (find k ps)
+find k [] = None
+find k (p ∷ ps) = cond (eqb p.names.id k) (Some p) (find k ps)
 
-abbrev pub first {ℓ} : {A : Type ℓ} → Option A → Option A → Option A
-first none o = o
-first (some a) o = some a
+abbrev pub first : {A : Type 0} → Option A → Option A → Option A
+first None o = o
+first (Some a) o = Some a
 
-pub first_none {ℓ} : {A : Type ℓ} (o : Option A) → first o none ≡ o
-first_none none = refl
-first_none (some a) = refl
+pub first_none : {A : Type 0} (o : Option A) → first o None ≡ o
+first_none None = refl
+first_none (Some a) = refl
 
 pub tally_append : (x : ℕ) (s t : List ℕ) → tally x (s ++ t) ≡ tally x s + tally x t
 unfolding tally
@@ -69,44 +68,44 @@ unfolding find
 find_append k [] t = refl
 find_append k (p ∷ s) t = go (eqb p.names.id k) (find_append k s t)
   where
-    go : (b : Bool) → find k (s ++ t) ≡ first (find k s) (find k t) → cond b (some p) (find k (s ++ t)) ≡ first (cond b (some p) (find k s)) (find k t)
+    go : (b : Bool) → find k (s ++ t) ≡ first (find k s) (find k t) → cond b (Some p) (find k (s ++ t)) ≡ first (cond b (Some p) (find k s)) (find k t)
     go true e = refl
     go false e = e
 
-pub find_none : (k : ℕ) (ps : List Pair) → tally k (ids ps) ≡ 0 → find k ps ≡ none
+pub find_none : (k : ℕ) (ps : List Pair) → tally k (ids ps) ≡ 0 → find k ps ≡ None
 unfolding find tally
 find_none k [] e = refl
 find_none k (p ∷ ps) e = go (eqb p.names.id k) e (λ z. find_none k ps z)
   where
-    go : (b : Bool) → cond b 1 0 + tally k (ids ps) ≡ 0 → (tally k (ids ps) ≡ 0 → find k ps ≡ none) → cond b (some p) (find k ps) ≡ none
+    go : (b : Bool) → cond b 1 0 + tally k (ids ps) ≡ 0 → (tally k (ids ps) ≡ 0 → find k ps ≡ None) → cond b (Some p) (find k ps) ≡ None
     go true z below = absurd (omega arith)
     go false z below = below (omega arith)
 
 -- a pair that is found has the id, stands in the list, and is counted
-pub find_id : (k : ℕ) (ps : List Pair) (p : Pair) → find k ps ≡ some p → p.names.id ≡ k
+pub find_id : (k : ℕ) (ps : List Pair) (p : Pair) → find k ps ≡ Some p → p.names.id ≡ k
 unfolding find
 find_id k [] p e = absurd (let z : ◌≡◌ {A = ℕ} 0 1 = cc in omega arith)
 find_id k (q ∷ ps) p e = go (eqb q.names.id k) (test q.names.id k) e (λ z. find_id k ps p z)
   where
-    go : (b : Bool) → Test q.names.id k b → cond b (some q) (find k ps) ≡ some p → (find k ps ≡ some p → p.names.id ≡ k) → p.names.id ≡ k
+    go : (b : Bool) → Test q.names.id k b → cond b (Some q) (find k ps) ≡ Some p → (find k ps ≡ Some p → p.names.id ≡ k) → p.names.id ≡ k
     go true (same f) z below = let g : q ≡ p = cc in rw (← g) f
     go false (other n) z below = below z
 
-pub find_mem : (k : ℕ) (ps : List Pair) (p : Pair) → find k ps ≡ some p → Memᴰ p ps
+pub find_mem : (k : ℕ) (ps : List Pair) (p : Pair) → find k ps ≡ Some p → Memᴰ p ps
 unfolding find
 find_mem k [] p e = absurd (let z : ◌≡◌ {A = ℕ} 0 1 = cc in omega arith)
 find_mem k (q ∷ ps) p e = go (eqb q.names.id k) e (λ z. find_mem k ps p z)
   where
-    go : (b : Bool) → cond b (some q) (find k ps) ≡ some p → (find k ps ≡ some p → Memᴰ p ps) → Memᴰ p (q ∷ ps)
+    go : (b : Bool) → cond b (Some q) (find k ps) ≡ Some p → (find k ps ≡ Some p → Memᴰ p ps) → Memᴰ p (q ∷ ps)
     go true z below = let e : p ≡ q = cc in Memᴰ.head e
     go false z below = Memᴰ.tail (below z)
 
-pub find_counted : (k : ℕ) (ps : List Pair) (p : Pair) → find k ps ≡ some p → 1 ≤ tally k (ids ps)
+pub find_counted : (k : ℕ) (ps : List Pair) (p : Pair) → find k ps ≡ Some p → 1 ≤ tally k (ids ps)
 unfolding find tally
 find_counted k [] p e = absurd (let z : ◌≡◌ {A = ℕ} 0 1 = cc in omega arith)
 find_counted k (q ∷ ps) p e = go (eqb q.names.id k) e (λ z. find_counted k ps p z)
   where
-    go : (b : Bool) → cond b (some q) (find k ps) ≡ some p → (find k ps ≡ some p → 1 ≤ tally k (ids ps)) → 1 ≤ cond b 1 0 + tally k (ids ps)
+    go : (b : Bool) → cond b (Some q) (find k ps) ≡ Some p → (find k ps ≡ Some p → 1 ≤ tally k (ids ps)) → 1 ≤ cond b 1 0 + tally k (ids ps)
     go true z below = omega arith
     go false z below = omega (arith, below z)
 
@@ -121,14 +120,14 @@ mem_counted (q ∷ ps) p m = go (Memᴰ.cases_cons m) (λ n. mem_counted ps p n)
         omega (arith, ap {B = ℕ} (λ (x : ℕ). cond (eqb x p.names.id) 1 0) (ap (λ (r : Pair). r.names.id) (sym e)), ap {B = ℕ} (λ (t : Bool). cond t 1 0) (eqb_same p.names.id))
     go (inr n) below = omega (arith, below n)
 
-pub mem_find : (ps : List Pair) (p : Pair) → tally p.names.id (ids ps) ≤ 1 → Memᴰ p ps → find p.names.id ps ≡ some p
+pub mem_find : (ps : List Pair) (p : Pair) → tally p.names.id (ids ps) ≤ 1 → Memᴰ p ps → find p.names.id ps ≡ Some p
 unfolding tally find
 mem_find [] p h m = absurd (Memᴰ.not-nil m)
 mem_find (q ∷ ps) p h m = go (eqb q.names.id p.names.id) (test q.names.id p.names.id) h (Memᴰ.cases_cons m) (λ u n. mem_find ps p u n)
   where
     go : (t : Bool) → Test q.names.id p.names.id t → cond t 1 0 + tally p.names.id (ids ps) ≤ 1 → (p ≡ q) ⊎ Memᴰ p ps →
-        (tally p.names.id (ids ps) ≤ 1 → Memᴰ p ps → find p.names.id ps ≡ some p) → cond t (some q) (find p.names.id ps) ≡ some p
-    go true (same f) u (inl e) below = ap {B = Option Pair} some (sym e)
+        (tally p.names.id (ids ps) ≤ 1 → Memᴰ p ps → find p.names.id ps ≡ Some p) → cond t (Some q) (find p.names.id ps) ≡ Some p
+    go true (same f) u (inl e) below = ap {B = Option Pair} Some (sym e)
     go true (same f) u (inr n) below = absurd (omega (arith, mem_counted ps p n))
     go false (other d) u (inl e) below = absurd (d (ap (λ (r : Pair). r.names.id) (sym e)))
     go false (other d) u (inr n) below = below (omega arith) n
@@ -138,16 +137,16 @@ pub ids_map : (f : Pair → Pair) → ((p : Pair) → (f p).names ≡ p.names) �
 ids_map f n [] = refl
 ids_map f n (p ∷ ps) = rw (n p, ids_map f n ps) refl
 
-abbrev pub mapped {ℓ κ} : {A : Type ℓ} {B : Type κ} → (A → B) → Option A → Option B
-mapped f none = none
-mapped f (some a) = some (f a)
+abbrev pub mapped : {A B : Type 0} → (A → B) → Option A → Option B
+mapped f None = None
+mapped f (Some a) = Some (f a)
 
 pub find_map : (f : Pair → Pair) → ((p : Pair) → (f p).names ≡ p.names) → (k : ℕ) (ps : List Pair) → find k (map f ps) ≡ mapped f (find k ps)
 unfolding find
 find_map f n k [] = refl
-find_map f n k (p ∷ ps) = ap (λ (m : Names). cond (eqb m.id k) (some (f p)) (find k (map f ps))) (n p) ∙ go (eqb p.names.id k) (find_map f n k ps)
+find_map f n k (p ∷ ps) = ap (λ (m : Names). cond (eqb m.id k) (Some (f p)) (find k (map f ps))) (n p) ∙ go (eqb p.names.id k) (find_map f n k ps)
   where
-    go : (b : Bool) → find k (map f ps) ≡ mapped f (find k ps) → cond b (some (f p)) (find k (map f ps)) ≡ mapped f (cond b (some p) (find k ps))
+    go : (b : Bool) → find k (map f ps) ≡ mapped f (find k ps) → cond b (Some (f p)) (find k (map f ps)) ≡ mapped f (cond b (Some p) (find k ps))
     go true e = refl
     go false e = e
 
@@ -185,7 +184,7 @@ find_moved : (k : ℕ) (f : List Pair) (l : Pair) → tally k (ids f) + tally k 
 unfolding find tally
 find_moved k f l u = at (eqb l.names.id k) u
   where
-    at : (b : Bool) → tally k (ids f) + (cond b 1 0 + 0) ≤ 1 → cond b (some l) (find k f) ≡ first (find k f) (cond b (some l) none)
+    at : (b : Bool) → tally k (ids f) + (cond b 1 0 + 0) ≤ 1 → cond b (Some l) (find k f) ≡ first (find k f) (cond b (Some l) None)
     at true u = rw (find_none k f (omega arith)) refl
     at false u = sym (first_none (find k f))
 
@@ -227,8 +226,8 @@ swap_remove_at xs p d ys = removing xs p d ys (length (xs ++ p ∷ ys) - 1) (ome
 -- ---- where an id stands
 
 pub data Place (k : ℕ) (ps : List Pair) : Type 0 where
-  missing : pair_index k ps ≡ none → find k ps ≡ none → Place k ps
-  found : (xs : List Pair) (p : Pair) (ys : List Pair) → ps ≡ xs ++ p ∷ ys → p.names.id ≡ k → pair_index k ps ≡ some (length xs) → find k ps ≡ some p → Place k ps
+  missing : pair_index k ps ≡ None → find k ps ≡ None → Place k ps
+  found : (xs : List Pair) (p : Pair) (ys : List Pair) → ps ≡ xs ++ p ∷ ys → p.names.id ≡ k → pair_index k ps ≡ Some (length xs) → find k ps ≡ Some p → Place k ps
 
 pub place : (k : ℕ) (ps : List Pair) → Place k ps
 unfolding pair_index find

@@ -1,8 +1,7 @@
 -- Laws of matching, and case C10 of the specification. Assumes nothing.
-use Rattle.std.specs.Prelude.{ℕ, zero, suc, ◌+◌, ◌<◌, ◌≡◌, Bool, true, false, ◌&&◌, ◌||◌, List, [], ◌∷◌, length, get_or, Float}
+use Rattle.std.specs.Prelude.{ℕ, zero, suc, ◌+◌, ◌<◌, ◌≡◌, Bool, true, false, ◌&&◌, ◌||◌, List, [], ◌∷◌, length, get_or, Float, Option, None, Some}
 use Rattle.std.proofs.Common.{not-suc-le-zero, add-one, arith, sym, ◌∙◌, eqb-true, eq-eqb}
 use Rattle.std.proofs.Math.Path.{refl, ap}
-use Rattle.std.proofs.Math.Option.{Option, none, some}
 use Rattle.rules.specs.Numbers.{first}
 use Rattle.rule_laws.specs.NumberLaws.{first_next, first_found}
 use Rattle.rules.specs.Records.{Point}
@@ -12,7 +11,7 @@ use Rattle.rules.specs.Matching.{FeatureRule, by_number, anchors_match, matches,
 module _ (same : FeatureRule) (square : Float) (olds : List Point) (new : Point) where
   -- no old point before k matches
   unfoldable pub NoneBefore : ℕ → Type 0
-  NoneBefore k = first (λ i. matches same square new (get_or olds i new)) k ≡ none
+  NoneBefore k = first (λ i. matches same square new (get_or olds i new)) k ≡ None
 
   pub none_before_first : NoneBefore 0
   unfolding NoneBefore first
@@ -27,7 +26,7 @@ module _ (same : FeatureRule) (square : Float) (olds : List Point) (new : Point)
   none_before zero h = none_before_first
   none_before (suc k) h = rw (← add-one) (none_before_next k (none_before k (λ i l. h i (omega arith))) (h k (omega arith)))
 
-  pub source_found : (k : ℕ) → NoneBefore k → matches same square new (get_or olds k new) ≡ true → k < length olds → source same square olds new ≡ some k
+  pub source_found : (k : ℕ) → NoneBefore k → matches same square new (get_or olds k new) ≡ true → k < length olds → source same square olds new ≡ Some k
   unfolding NoneBefore source
   source_found k h e l = first_found (λ i. matches same square new (get_or olds i new)) k (length olds) h e l
 
@@ -41,8 +40,8 @@ module _ (same : FeatureRule) (square : Float) (olds : List Point) (new : Point)
 
   -- matching sets nothing but the two warm start impulses: with the new point's own put back it is the new point
   taken_places : (o : Option ℕ) → with_impulses (taking olds new o) new ≡ new
-  taken_places none = refl
-  taken_places (some k) = refl
+  taken_places None = refl
+  taken_places (Some k) = refl
 
   pub matched_places : with_impulses (matched_point same square olds new) new ≡ new
   unfolding matched_point
@@ -80,13 +79,13 @@ unknown_passes square new old n o far =
 -- such a point takes the first old one that has no features either, where none before that has close anchors
 pub unknown_takes_first : (square : Float) (olds : List Point) (new : Point) (k : ℕ) → Featureless new → k < length olds → Featureless (get_or olds k new)
     → ((i : ℕ) → i < k → (Featureless (get_or olds i new) → ⊥) × (anchors_match square new (get_or olds i new) ≡ false))
-    → source by_number square olds new ≡ some k
+    → source by_number square olds new ≡ Some k
 unknown_takes_first square olds new k n l o before =
     source_found by_number square olds new k
     (none_before by_number square olds new k (λ i h. unknown_passes square new (get_or olds i new) n (before i h).0 (before i h).1))
     (unknown_matches square new (get_or olds k new) n o) l
 
 -- C10: a new and two old points without features
-pub unknown_takes_first_of_two : (square : Float) (a b new : Point) → Featureless new → Featureless a → Featureless b → source by_number square (a ∷ b ∷ []) new ≡ some 0
+pub unknown_takes_first_of_two : (square : Float) (a b new : Point) → Featureless new → Featureless a → Featureless b → source by_number square (a ∷ b ∷ []) new ≡ Some 0
 unknown_takes_first_of_two square a b new n o p =
     unknown_takes_first square (a ∷ b ∷ []) new 0 n (omega arith) o (λ i h. absurd (not-suc-le-zero h))

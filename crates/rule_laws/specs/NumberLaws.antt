@@ -4,10 +4,9 @@ use Rattle.std.proofs.Common.{not-suc-le-zero, eq-or-lt_of_le, sym, ◌∙◌, �
 use Rattle.std.proofs.Math.Numerals.{add-one}
 use native.Mathlib.Omega.{arith}
 use Rattle.std.proofs.Math.Path.{◌≡◌, refl, ap, subst}
-use Rattle.std.specs.Prelude.{◌⊎◌, Bool, true, false, ◌&&◌, ◌||◌, Float}
+use Rattle.std.specs.Prelude.{◌⊎◌, Bool, true, false, ◌&&◌, ◌||◌, Float, Option, None, Some}
 use Rattle.std.proofs.Math.Logic.{inl, inr}
 use Rattle.std.proofs.Math.Bool.{cond}
-use Rattle.std.proofs.Math.Option.{Option, none, some}
 use Rattle.std.proofs.Math.Dec.{T}
 use Rattle.std.specs.Float.Ieee.{is_nan}
 use Rattle.math.specs.Laws.{lt_itself, lt_through, lt_either, lt_numbers}
@@ -15,7 +14,7 @@ use Rattle.rules.specs.Numbers.{else, first, Leading, Better, greater, less, ove
 
 -- a search found a number
 abbrev pub Found : Option ℕ → Type 0
-Found o = (i : ℕ) × (o ≡ some i)
+Found o = (i : ℕ) × (o ≡ Some i)
 
 first_part : (a b : Bool) → a && b ≡ true → a ≡ true
 first_part true b e = refl
@@ -40,34 +39,34 @@ clash p q = subst T (sym p ∙ q) tt
 -- ---- the first that passes
 module _ (test : ℕ → Bool) where
   -- one turn of a search that has found nothing
-  pub first_next : (k : ℕ) → first test k ≡ none → test k ≡ false → first test (k + 1) ≡ none
+  pub first_next : (k : ℕ) → first test k ≡ None → test k ≡ false → first test (k + 1) ≡ None
   unfolding first
-  first_next k e f = rw add-one (ap (λ (o : Option ℕ). else o (test k) k) e ∙ ap (λ (b : Bool). else none b k) f)
+  first_next k e f = rw add-one (ap (λ (o : Option ℕ). else o (test k) k) e ∙ ap (λ (b : Bool). else None b k) f)
 
-  pub first_here : (k : ℕ) → first test k ≡ none → test k ≡ true → first test (suc k) ≡ some k
+  pub first_here : (k : ℕ) → first test k ≡ None → test k ≡ true → first test (suc k) ≡ Some k
   unfolding first
-  first_here k e f = ap (λ (o : Option ℕ). else o (test k) k) e ∙ ap (λ (b : Bool). else none b k) f
+  first_here k e f = ap (λ (o : Option ℕ). else o (test k) k) e ∙ ap (λ (b : Bool). else None b k) f
 
   -- what is found stays, so a search through n numbers that passes over k others stops at k
-  stays : (i k n : ℕ) → first test k ≡ some i → k ≤ n → first test n ≡ some i
+  stays : (i k n : ℕ) → first test k ≡ Some i → k ≤ n → first test n ≡ Some i
   unfolding first
-  stays i k zero e h = subst (λ (m : ℕ). first test m ≡ some i) (let z : k ≡ 0 = omega arith in z) e
+  stays i k zero e h = subst (λ (m : ℕ). first test m ≡ Some i) (let z : k ≡ 0 = omega arith in z) e
   stays i k (suc m) e h =
       elim (eq-or-lt_of_le h) [
-        | inl q ↦ subst (λ (m : ℕ). first test m ≡ some i) q e
+        | inl q ↦ subst (λ (m : ℕ). first test m ≡ Some i) q e
         | inr l ↦ ap (λ (o : Option ℕ). else o (test m) m) (stays i k m e (omega arith))
       ]
 
-  pub first_found : (k n : ℕ) → first test k ≡ none → test k ≡ true → k < n → first test n ≡ some k
+  pub first_found : (k n : ℕ) → first test k ≡ None → test k ≡ true → k < n → first test n ≡ Some k
   first_found k n e f h = stays k (suc k) n (first_here k e f) h
 
   -- what is found passes
-  passed : (k : ℕ) (b : Bool) (o : Option ℕ) (i : ℕ) → test k ≡ b → (o ≡ some i → test i ≡ true) → else o b k ≡ some i → test i ≡ true
-  passed k b (some j) i e f h = f h
-  passed k true none i e f h = subst (λ (m : ℕ). test m ≡ true) (let z : ◌≡◌ {A = ℕ} k i = cc in z) e
-  passed k false none i e f h = absurd (let z : ◌≡◌ {A = ℕ} 0 1 = cc in omega arith)
+  passed : (k : ℕ) (b : Bool) (o : Option ℕ) (i : ℕ) → test k ≡ b → (o ≡ Some i → test i ≡ true) → else o b k ≡ Some i → test i ≡ true
+  passed k b (Some j) i e f h = f h
+  passed k true None i e f h = subst (λ (m : ℕ). test m ≡ true) (let z : ◌≡◌ {A = ℕ} k i = cc in z) e
+  passed k false None i e f h = absurd (let z : ◌≡◌ {A = ℕ} 0 1 = cc in omega arith)
 
-  pub first_passes : (n i : ℕ) → first test n ≡ some i → test i ≡ true
+  pub first_passes : (n i : ℕ) → first test n ≡ Some i → test i ≡ true
   unfolding first
   first_passes zero i h = absurd (let z : ◌≡◌ {A = ℕ} 0 1 = cc in omega arith)
   first_passes (suc k) i h = passed k (test k) (first test k) i refl (first_passes k i) h
@@ -82,24 +81,24 @@ first_same f g (suc k) h =
 -- ---- the one that leads
 module _ (better : Better) (value : ℕ → Float) (among : ℕ → Bool) (start : Float) where
   -- one turn of the search, where k leads and where it does not
-  pub leader_takes : (k : ℕ) {l : Leading} → l ≡ leader better value among start k → among k && better (value k) l.value ≡ true → leader better value among start (k + 1) ≡ record { value = value k; who = some k }
+  pub leader_takes : (k : ℕ) {l : Leading} → l ≡ leader better value among start k → among k && better (value k) l.value ≡ true → leader better value among start (k + 1) ≡ record { value = value k; who = Some k }
   unfolding leader
   leader_takes k {l} e f =
       rw add-one
-      (ap (overtaken better value among k) (sym e) ∙ ap (λ (b : Bool). cond b (record { value = value k; who = some k }) l) f)
+      (ap (overtaken better value among k) (sym e) ∙ ap (λ (b : Bool). cond b (record { value = value k; who = Some k }) l) f)
 
   pub leader_keeps : (k : ℕ) {l : Leading} → l ≡ leader better value among start k → among k && better (value k) l.value ≡ false → leader better value among start (k + 1) ≡ l
   unfolding leader
   leader_keeps k {l} e f =
       rw add-one
-      (ap (overtaken better value among k) (sym e) ∙ ap (λ (b : Bool). cond b (record { value = value k; who = some k }) l) f)
+      (ap (overtaken better value among k) (sym e) ∙ ap (λ (b : Bool). cond b (record { value = value k; who = Some k }) l) f)
 
   -- ---- who leads takes part, and is below n
-  led : (k : ℕ) (b : Bool) (l : Leading) (i : ℕ) → (among k && better (value k) l.value ≡ b) → (cond b (record { value = value k; who = some k }) l).who ≡ some i → (i ≡ k) ⊎ (l.who ≡ some i)
+  led : (k : ℕ) (b : Bool) (l : Leading) (i : ℕ) → (among k && better (value k) l.value ≡ b) → (cond b (record { value = value k; who = Some k }) l).who ≡ Some i → (i ≡ k) ⊎ (l.who ≡ Some i)
   led k true l i e h = inl (sym (let z : ◌≡◌ {A = ℕ} k i = cc in z))
   led k false l i e h = inr h
 
-  pub leader_below : (n i : ℕ) → (leader better value among start n).who ≡ some i → i < n
+  pub leader_below : (n i : ℕ) → (leader better value among start n).who ≡ Some i → i < n
   unfolding leader
   leader_below zero i h = absurd (let z : ◌≡◌ {A = ℕ} 0 1 = cc in omega arith)
   leader_below (suc k) i h =
@@ -108,11 +107,11 @@ module _ (better : Better) (value : ℕ → Float) (among : ℕ → Bool) (start
         | inr r ↦ let z = leader_below k i r in omega arith
       ]
 
-  part : (k : ℕ) (b : Bool) (l : Leading) (i : ℕ) → (among k && better (value k) l.value ≡ b) → (l.who ≡ some i → among i ≡ true) → (cond b (record { value = value k; who = some k }) l).who ≡ some i → among i ≡ true
+  part : (k : ℕ) (b : Bool) (l : Leading) (i : ℕ) → (among k && better (value k) l.value ≡ b) → (l.who ≡ Some i → among i ≡ true) → (cond b (record { value = value k; who = Some k }) l).who ≡ Some i → among i ≡ true
   part k true l i e f h = subst (λ (m : ℕ). among m ≡ true) (let z : ◌≡◌ {A = ℕ} k i = cc in z) (first_part (among k) (better (value k) l.value) e)
   part k false l i e f h = f h
 
-  pub leader_among : (n i : ℕ) → (leader better value among start n).who ≡ some i → among i ≡ true
+  pub leader_among : (n i : ℕ) → (leader better value among start n).who ≡ Some i → among i ≡ true
   unfolding leader
   leader_among zero i h = absurd (let z : ◌≡◌ {A = ℕ} 0 1 = cc in omega arith)
   leader_among (suc k) i h =
@@ -121,9 +120,9 @@ module _ (better : Better) (value : ℕ → Float) (among : ℕ → Bool) (start
   -- ---- someone leads, where one takes part and all values are better than the start
   -- while nobody leads the value is the start
   abbrev Sound : Leading → Type 0
-  Sound l = Found l.who ⊎ ((l.who ≡ none) × (l.value ≡ start))
+  Sound l = Found l.who ⊎ ((l.who ≡ None) × (l.value ≡ start))
 
-  sound_step : (k : ℕ) (b : Bool) (l : Leading) → Sound l → Sound (cond b (record { value = value k; who = some k }) l)
+  sound_step : (k : ℕ) (b : Bool) (l : Leading) → Sound l → Sound (cond b (record { value = value k; who = Some k }) l)
   sound_step k true l s = inl (k, refl)
   sound_step k false l s = s
 
@@ -132,11 +131,11 @@ module _ (better : Better) (value : ℕ → Float) (among : ℕ → Bool) (start
   sound zero = inr (refl, refl)
   sound (suc k) = sound_step k (among k && better (value k) (leader better value among start k).value) (leader better value among start k) (sound k)
 
-  found_step : (k : ℕ) (b : Bool) (l : Leading) → Found l.who → Found (cond b (record { value = value k; who = some k }) l).who
+  found_step : (k : ℕ) (b : Bool) (l : Leading) → Found l.who → Found (cond b (record { value = value k; who = Some k }) l).who
   found_step k true l f = (k, refl)
   found_step k false l f = f
 
-  joins : (k : ℕ) (b : Bool) (l : Leading) → Sound l → among k && better (value k) l.value ≡ b → among k ≡ true → better (value k) start ≡ true → Found (cond b (record { value = value k; who = some k }) l).who
+  joins : (k : ℕ) (b : Bool) (l : Leading) → Sound l → among k && better (value k) l.value ≡ b → among k ≡ true → better (value k) start ≡ true → Found (cond b (record { value = value k; who = Some k }) l).who
   joins k true l s e a h = (k, refl)
   joins k false l (inl f) e a h = f
   joins k false l (inr s) e a h =
@@ -162,7 +161,7 @@ module _ (better : Better) (value : ℕ → Float) (among : ℕ → Bool) (start
         | inl q ↦ subst (λ (m : ℕ). leader better value among start m ≡ l) q e
         | inr s ↦
             ap (overtaken better value among m) (leader_stands k m e f (omega arith))
-            ∙ ap (λ (b : Bool). cond b (record { value = value m; who = some m }) l) (not_second (among m) (better (value m) l.value) (f m (omega arith)))
+            ∙ ap (λ (b : Bool). cond b (record { value = value m; who = Some m }) l) (not_second (among m) (better (value m) l.value) (f m (omega arith)))
       ]
 
 -- ---- who leads is the earliest of the best
@@ -200,7 +199,7 @@ module _ (better : Better) (ranks : Ranks better) (value : ℕ → Float) (among
 
   -- nobody who took part is better than the value that leads
   none_better : (k : ℕ) (b : Bool) (l : Leading) → among k && better (value k) l.value ≡ b → ((j : ℕ) → j < k → among j ≡ true → better (value j) l.value ≡ false)
-      → (j : ℕ) → j < suc k → among j ≡ true → better (value j) (cond b (record { value = value k; who = some k }) l).value ≡ false
+      → (j : ℕ) → j < suc k → among j ≡ true → better (value j) (cond b (record { value = value k; who = Some k }) l).value ≡ false
   none_better k true l e f j h a =
       elim (eq-or-lt_of_le (let z : j ≤ k = omega arith in z)) [
         | inl p ↦ subst (λ (i : ℕ). better (value i) (value k) ≡ false) (sym p) (ranks.never_itself (value k))
@@ -223,7 +222,7 @@ module _ (better : Better) (ranks : Ranks better) (value : ℕ → Float) (among
 
   -- the value that leads is the leader's, and better than the start and than every earlier number
   abbrev Ahead : Leading → Type 0
-  Ahead l = (i : ℕ) → l.who ≡ some i → (l.value ≡ value i) × (better (value i) start ≡ true) × ((j : ℕ) → j < i → among j ≡ true → (better (value i) (value j) ≡ true) ⊎ (is_nan (value j) ≡ true))
+  Ahead l = (i : ℕ) → l.who ≡ Some i → (l.value ≡ value i) × (better (value i) start ≡ true) × ((j : ℕ) → j < i → among j ≡ true → (better (value i) (value j) ≡ true) ⊎ (is_nan (value j) ≡ true))
 
   over_start : (v : Float) (l : Leading) → Sound better value among start l → Ahead l → better v l.value ≡ true → better v start ≡ true
   over_start v l (inl f) a h = let g = a f.0 f.1 in ranks.through v (value f.0) start (ap (better v) (sym g.0) ∙ h) g.1
@@ -234,7 +233,7 @@ module _ (better : Better) (ranks : Ranks better) (value : ℕ → Float) (among
   over_earlier v w x false e h f = ⊎_elim inl (λ t. absurd (clash t f)) (ranks.either v x w e h)
 
   ahead_step : (k : ℕ) (b : Bool) (l : Leading) → among k && better (value k) l.value ≡ b → Sound better value among start l → ((j : ℕ) → j < k → among j ≡ true → better (value j) l.value ≡ false) → Ahead l
-      → Ahead (cond b (record { value = value k; who = some k }) l)
+      → Ahead (cond b (record { value = value k; who = Some k }) l)
   ahead_step k true l e s f a i h =
       let p : ◌≡◌ {A = ℕ} k i = cc in
       let t = second_part (among k) (better (value k) l.value) e in
@@ -247,7 +246,7 @@ module _ (better : Better) (ranks : Ranks better) (value : ℕ → Float) (among
   ahead zero i h = absurd (let z : ◌≡◌ {A = ℕ} 0 1 = cc in omega arith)
   ahead (suc k) i h = ahead_step k (among k && better (value k) (at k).value) (at k) refl (sound better value among start k) (leader_none_better k) (ahead k) i h
 
-  pub leader_best : (n i : ℕ) → (leader better value among start n).who ≡ some i → Leads better value among start n i
+  pub leader_best : (n i : ℕ) → (leader better value among start n).who ≡ Some i → Leads better value among start n i
   leader_best n i h =
       let a = ahead n i h in
       record {
@@ -260,14 +259,14 @@ module _ (better : Better) (ranks : Ranks better) (value : ℕ → Float) (among
       }
 
   -- where nobody leads, nobody who takes part is better than the start
-  pub leader_none : (n : ℕ) → (leader better value among start n).who ≡ none → (j : ℕ) → j < n → among j ≡ true → better (value j) start ≡ false
+  pub leader_none : (n : ℕ) → (leader better value among start n).who ≡ None → (j : ℕ) → j < n → among j ≡ true → better (value j) start ≡ false
   leader_none n h j g c =
       elim (sound better value among start n) [
         | inl f ↦ absurd (nobody (sym h ∙ f.1))
         | inr s ↦ ap (better (value j)) (sym s.1) ∙ leader_none_better n j g c
       ]
     where
-      nobody : {i : ℕ} → none ≡ some i → ⊥
+      nobody : {i : ℕ} → None ≡ Some i → ⊥
       nobody {i} e = absurd (let z : ◌≡◌ {A = ℕ} 0 1 = cc in omega arith)
 
   -- there is only one such number, and it leads
@@ -281,12 +280,12 @@ module _ (better : Better) (ranks : Ranks better) (value : ℕ → Float) (among
   pub leads_once : (n i k : ℕ) → Leads better value among start n i → Leads better value among start n k → i ≡ k
   leads_once n i k p q = let a = not_before n i k p q in let b = not_before n k i q p in omega arith
 
-  pub leader_only : (n i : ℕ) → Leads better value among start n i → (leader better value among start n).who ≡ some i
+  pub leader_only : (n i : ℕ) → Leads better value among start n i → (leader better value among start n).who ≡ Some i
   leader_only n i p = go (leader better value among start n).who refl
     where
-      go : (o : Option ℕ) → (leader better value among start n).who ≡ o → o ≡ some i
-      go none e = absurd (clash p.ahead (leader_none n e i p.below p.takes_part))
-      go (some k) e = ap some (leads_once n k i (leader_best n k e) p)
+      go : (o : Option ℕ) → (leader better value among start n).who ≡ o → o ≡ Some i
+      go None e = absurd (clash p.ahead (leader_none n e i p.below p.takes_part))
+      go (Some k) e = ap Some (leads_once n k i (leader_best n k e) p)
 
 -- ---- values and parts that agree below n give the same leader
 pub leader_same : (better : Better) (v w : ℕ → Float) (a b : ℕ → Bool) (start : Float) (n : ℕ) → ((k : ℕ) → k < n → v k ≡ w k) → ((k : ℕ) → k < n → a k ≡ b k) → leader better v a start n ≡ leader better w b start n
@@ -295,8 +294,8 @@ leader_same better v w a b start zero h g = refl
 leader_same better v w a b start (suc k) h g =
     let l = leader better w b start k in
     ap (overtaken better v a k) (leader_same better v w a b start k (λ i z. h i (omega arith)) (λ i z. g i (omega arith)))
-    ∙ ap (λ (x : Float). cond (a k && better x l.value) (record { value = x; who = some k }) l) (h k (omega arith))
-    ∙ ap (λ (x : Bool). cond (x && better (w k) l.value) (record { value = w k; who = some k }) l) (g k (omega arith))
+    ∙ ap (λ (x : Float). cond (a k && better x l.value) (record { value = x; who = Some k }) l) (h k (omega arith))
+    ∙ ap (λ (x : Bool). cond (x && better (w k) l.value) (record { value = w k; who = Some k }) l) (g k (omega arith))
 
 -- ---- every number, and some number
 both : (a b : Bool) → a ≡ true → b ≡ true → a && b ≡ true

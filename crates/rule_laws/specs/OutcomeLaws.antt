@@ -1,9 +1,8 @@
 -- What one pair's update does to a pair's names, edge, marks, number of manifolds and status bit, and nothing of its floats. Assumes nothing.
-use Rattle.std.specs.Prelude.{ℕ, ◌≡◌, Bool, cond, not, ◌&&◌, ◌||◌, List, [], ◌∷◌, map, eqb, leb, length, ℤ, pos, ◌-ℤ◌}
+use Rattle.std.specs.Prelude.{ℕ, ◌≡◌, Bool, cond, not, ◌&&◌, ◌||◌, List, [], ◌∷◌, map, eqb, leb, length, ℤ, pos, ◌-ℤ◌, Option, None, Some}
 use Rattle.std.proofs.Math.Path.{refl}
 use Rattle.std.proofs.Common.{sym, ap}
 use Rattle.std.proofs.Math.Bool.{true, false}
-use Rattle.std.proofs.Math.Option.{Option, none, some}
 use Rattle.std.proofs.Math.Dec.{eqb-suc-zero}
 use Rattle.std.proofs.lemmas.List.{length-map}
 use Rattle.math.specs.Constants.{zero_f, tenth}
@@ -118,15 +117,15 @@ module _ (s : Settings) (answer : Bool) (proposal : List ProposedManifold) where
 
   outcome_overlapping : (c1 c2 : Collider) (a b : Side) (p : Pair) (r : Bool) (k : Option Cache) → Outcome p (overlapping s answer proposal c1 c2 a b p r k)
   unfolding overlapping recycled_pair
-  outcome_overlapping c1 c2 a b p true (some k) = recycled refl refl (ap (counting (brief p)) (length-map p.manifolds (recycled_manifold a b k))) refl
-  outcome_overlapping c1 c2 a b p true none = outcome_renewed c1 c2 a b p
+  outcome_overlapping c1 c2 a b p true (Some k) = recycled refl refl (ap (counting (brief p)) (length-map p.manifolds (recycled_manifold a b k))) refl
+  outcome_overlapping c1 c2 a b p true None = outcome_renewed c1 c2 a b p
   outcome_overlapping c1 c2 a b p false k = outcome_renewed c1 c2 a b p
 
   outcome_between : (body : ℕ → Option Body) (p : Pair) (c1 c2 : Option Collider) → Outcome p (updated_between s body answer proposal p c1 c2)
   unfolding updated_between disjoint
-  outcome_between body p none c2 = skipped refl refl
-  outcome_between body p (some c1) none = skipped refl refl
-  outcome_between body p (some c1) (some c2) =
+  outcome_between body p None c2 = skipped refl refl
+  outcome_between body p (Some c1) None = skipped refl refl
+  outcome_between body p (Some c1) (Some c2) =
       go (overlap c1 c2 p.speculative && interact c1 c2) (recycles s p.flags.touching a b p.cache)
     where
       a : Side

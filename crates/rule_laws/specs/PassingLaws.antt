@@ -1,9 +1,8 @@
 -- The status pass, id by id: an id that is visited once has what one visit does to it, an id that is not visited nothing. Assumes nothing.
-use Rattle.std.specs.Prelude.{ℕ, zero, suc, ◌+◌, ◌≤◌, ◌<◌, ◌≡◌, ◌≢◌, ◌⊎◌, Bool, cond, List, [], ◌∷◌, ◌++◌, eqb, length, ℤ}
+use Rattle.std.specs.Prelude.{ℕ, zero, suc, ◌+◌, ◌≤◌, ◌<◌, ◌≡◌, ◌≢◌, ◌⊎◌, Bool, cond, List, [], ◌∷◌, ◌++◌, eqb, length, ℤ, Option, None, Some}
 use Rattle.std.proofs.Math.Path.{refl}
 use Rattle.std.proofs.Common.{sym, ap, subst, ◌∙◌, inl, inr, arith}
 use Rattle.std.proofs.Math.Bool.{true, false}
-use Rattle.std.proofs.Math.Option.{Option, none, some}
 use Rattle.rules.specs.Records.{Pair, Names}
 use Rattle.rules.specs.Update.{Updated}
 use Rattle.rules.specs.Status.{Pass, Change, start, stop, count, stop_if, count_of, visit, visit_all, bit_of, standing_bits, Verdict, vanishes, starts, stops, generates, recounts, persists, changes_for, verdict}
@@ -21,8 +20,8 @@ replay_append ps (c ∷ cs) ds h = replay_append ps cs ds (replay_one ps c h)
 -- what is held of an id comes from what was held of it
 replay_one_local : (ps : List Pair) (c : Change) (g h : Held) (k : ℕ) → g k ≡ h k → replay_one ps c g k ≡ replay_one ps c h k
 unfolding replay_one
-replay_one_local ps (start id) g h k e = ap (λ (o : Option ℤ). cond (eqb k id) (some (manifolds_of id ps)) o) e
-replay_one_local ps (stop id a b) g h k e = ap (λ (o : Option ℤ). cond (eqb k id) none o) e
+replay_one_local ps (start id) g h k e = ap (λ (o : Option ℤ). cond (eqb k id) (Some (manifolds_of id ps)) o) e
+replay_one_local ps (stop id a b) g h k e = ap (λ (o : Option ℤ). cond (eqb k id) None o) e
 replay_one_local ps (count id a b d) g h k e = go (eqb k id) (test k id)
   where
     go : (t : Bool) → Test k id t → cond t (raised_by (g id) d) (g k) ≡ cond t (raised_by (h id) d) (h k)
@@ -48,19 +47,19 @@ module _ (ps : List Pair) (h : Held) (k id c d : ℕ) (n : k ≢ id) where
   stop_other : (g : Bool) (a b : Option ℕ) → replay ps (stop_if g (naming id c d a b)) h k ≡ h k
   unfolding replay replay_one
   stop_other false a b = refl
-  stop_other true none b = refl
-  stop_other true (some x) none = refl
-  stop_other true (some x) (some y) = holding_other h id none k n
+  stop_other true None b = refl
+  stop_other true (Some x) None = refl
+  stop_other true (Some x) (Some y) = holding_other h id None k n
 
   count_other : (e : ℤ) (a b : Option ℕ) → replay ps (count_of (naming id c d a b) e) h k ≡ h k
   unfolding replay replay_one
-  count_other e none b = refl
-  count_other e (some x) none = refl
-  count_other e (some x) (some y) = holding_other h id (raised_by (h id) e) k n
+  count_other e None b = refl
+  count_other e (Some x) None = refl
+  count_other e (Some x) (Some y) = holding_other h id (raised_by (h id) e) k n
 
   start_other : (g : Bool) → replay ps (cond g (start id ∷ []) []) h k ≡ h k
   unfolding replay replay_one
-  start_other true = holding_other h id (some (manifolds_of id ps)) k n
+  start_other true = holding_other h id (Some (manifolds_of id ps)) k n
   start_other false = refl
 
 -- the changes that a pair's visit lists concern its id alone
@@ -77,9 +76,9 @@ visit_changes_other : (ps : List Pair) (h : Held) (k j : ℕ) (qs : List Pair) �
 unfolding replay
 visit_changes_other ps h k j qs n = go (find j qs) (λ p e. find_id j qs p e)
   where
-    go : (o : Option Pair) → ((p : Pair) → o ≡ some p → p.names.id ≡ j) → replay ps (visit_changes o) h k ≡ h k
-    go none f = refl
-    go (some p) f = changes_for_other ps h k (verdict p) p (λ e. n (e ∙ f p refl))
+    go : (o : Option Pair) → ((p : Pair) → o ≡ Some p → p.names.id ≡ j) → replay ps (visit_changes o) h k ≡ h k
+    go None f = refl
+    go (Some p) f = changes_for_other ps h k (verdict p) p (λ e. n (e ∙ f p refl))
 
 -- ---- the pass
 

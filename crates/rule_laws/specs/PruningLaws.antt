@@ -1,10 +1,9 @@
 -- Laws of pruning: points 1 and 2 always exist, whatever the floats, only the points below the count are looked at, of equal points two are kept, and four at most of any. Assumes nothing.
 use Prim.Native.Nat.{ℕ, zero, suc, ◌≤◌, ◌<◌}
 use native.Mathlib.Omega.{arith}
-use Rattle.std.specs.Prelude.{◌≡◌, true, not, [], ◌∷◌, ◌++◌, T, length}
+use Rattle.std.specs.Prelude.{◌≡◌, true, not, [], ◌∷◌, ◌++◌, T, length, Option, None, Some}
 use Rattle.std.proofs.Math.Path.{refl, ap}
 use Rattle.std.proofs.Common.{sym, ◌∙◌, ne_eqb}
-use Rattle.std.proofs.Math.Option.{Option, none, some}
 use Rattle.std.specs.Float.Ieee.{Float, lt}
 use Rattle.std.specs.Float.Ieee.Positive.{above}
 use Rattle.std.proofs.Math.ListN.{length-append}
@@ -51,7 +50,7 @@ module _ (count : ℕ) (p : ℕ → Projected) where
   point1_exists h d =
       leader_exists greater (λ k. weight (squared_length (p k).point) (p k)) (λ k. true) lowest count 0 h refl (λ i l. weight_above _ (p i) (d i l))
 
-  pub point1_below : (i : ℕ) → point1 count p ≡ some i → i < count
+  pub point1_below : (i : ℕ) → point1 count p ≡ Some i → i < count
   unfolding point1
   point1_below i e = leader_below greater (λ k. weight (squared_length (p k).point) (p k)) (λ k. true) lowest count i e
 
@@ -61,15 +60,15 @@ module _ (count : ℕ) (p : ℕ → Projected) where
       leader_exists greater (λ k. weight (squared_distance (p k).point (p i).point) (p k)) (other_than i) lowest count (other i) (other_below i count h) (other_differs i)
       (λ k l. weight_above _ (p k) (d k l))
 
-  pub point2_below : (i j : ℕ) → point2 count p i ≡ some j → j < count
+  pub point2_below : (i j : ℕ) → point2 count p i ≡ Some j → j < count
   unfolding point2
   point2_below i j e = leader_below greater (λ k. weight (squared_distance (p k).point (p i).point) (p k)) (other_than i) lowest count j e
 
-  pub point3_below : (normal : Vec3) (i j k : ℕ) → point3 normal count p i j ≡ some k → k < count
+  pub point3_below : (normal : Vec3) (i j k : ℕ) → point3 normal count p i j ≡ Some k → k < count
   unfolding point3
   point3_below normal i j k e = leader_below less (side_value normal p i j) (rest i j) zero_f count k e
 
-  pub point4_below : (normal : Vec3) (i j k : ℕ) → point4 normal count p i j ≡ some k → k < count
+  pub point4_below : (normal : Vec3) (i j k : ℕ) → point4 normal count p i j ≡ Some k → k < count
   unfolding point4
   point4_below normal i j k e = leader_below greater (side_value normal p i j) (rest i j) zero_f count k e
 
@@ -109,13 +108,13 @@ module _ (normal : Vec3) (count : ℕ) (p q : ℕ → Projected) (same : (k : �
 
   beside_same : (i : ℕ) → i < count → (o : Option ℕ) → point2 count q i ≡ o → kept_beside normal count p i o ≡ kept_beside normal count q i o
   unfolding kept_beside
-  beside_same i a none e = refl
-  beside_same i a (some j) e = let b = point2_below count q i j e in rw (point3_same i j a b, point4_same i j a b)
+  beside_same i a None e = refl
+  beside_same i a (Some j) e = let b = point2_below count q i j e in rw (point3_same i j a b, point4_same i j a b)
 
   from_same : (o : Option ℕ) → point1 count q ≡ o → kept_from normal count p o ≡ kept_from normal count q o
   unfolding kept_from
-  from_same none e = refl
-  from_same (some i) e =
+  from_same None e = refl
+  from_same (Some i) e =
       let a = point1_below count q i e in
       ap (kept_beside normal count p i) (point2_same i a) ∙ beside_same i a (point2 count q i) refl
 
@@ -127,21 +126,21 @@ module _ (normal : Vec3) (q : Projected) (deep : T (above q.depth)) (n : ℕ) (t
   abbrev all : ℕ → Projected
   all k = q
 
-  point1_equal : point1 n all ≡ some 0
+  point1_equal : point1 n all ≡ Some 0
   unfolding point1 leader
   point1_equal =
       let value : ℕ → Float = λ k. weight (squared_length q.point) q in
-      let start : Leading = record { value = lowest; who = none } in
+      let start : Leading = record { value = lowest; who = None } in
       ap (λ (l : Leading). l.who)
       (leader_stands greater value (λ k. true) lowest 1 n
       (leader_takes greater value (λ k. true) lowest 0 {l = start} refl (weight_above (squared_length q.point) q deep))
       (λ i l. lt_itself (value i)) (omega arith))
 
-  point2_equal : point2 n all 0 ≡ some 1
+  point2_equal : point2 n all 0 ≡ Some 1
   unfolding point2 leader
   point2_equal =
       let value : ℕ → Float = λ k. weight (squared_distance q.point q.point) q in
-      let start : Leading = record { value = lowest; who = none } in
+      let start : Leading = record { value = lowest; who = None } in
       let one = leader_keeps greater value (other_than 0) lowest 0 {l = start} refl refl in
       ap (λ (l : Leading). l.who)
       (leader_stands greater value (other_than 0) lowest 2 n
@@ -152,13 +151,13 @@ module _ (normal : Vec3) (q : Projected) (deep : T (above q.depth)) (n : ℕ) (t
   unfolding side_value
   side_void k = dot_void (cross (q.point -v q.point) normal) (q.point -v q.point) (vector_difference_void q.point)
 
-  point3_equal : point3 normal n all 0 1 ≡ none
+  point3_equal : point3 normal n all 0 1 ≡ None
   unfolding point3 leader
   point3_equal =
       ap (λ (l : Leading). l.who)
       (leader_stands less (side_value normal all 0 1) (rest 0 1) zero_f 0 n refl (λ i l. void_not_below (side_value normal all 0 1 i) (side_void i)) (omega arith))
 
-  point4_equal : point4 normal n all 0 1 ≡ none
+  point4_equal : point4 normal n all 0 1 ≡ None
   unfolding point4 leader
   point4_equal =
       ap (λ (l : Leading). l.who)
@@ -182,21 +181,21 @@ equal_points_kept normal p n point h same =
 -- ---- four at most
 module _ (normal : Vec3) (count : ℕ) where
   listed_one : (o : Option ℕ) → length (listed o) ≤ 1
-  listed_one none = omega arith
-  listed_one (some k) = omega arith
+  listed_one None = omega arith
+  listed_one (Some k) = omega arith
 
   beside_four : (p : ℕ → Projected) (i : ℕ) (o : Option ℕ) → length (kept_beside normal count p i o) ≤ 4
   unfolding kept_beside
-  beside_four p i none = omega arith
-  beside_four p i (some j) =
+  beside_four p i None = omega arith
+  beside_four p i (Some j) =
       let below = listed (point3 normal count p i j) in
       let above = listed (point4 normal count p i j) in
       omega (arith, length-append below (j ∷ above), listed_one (point3 normal count p i j), listed_one (point4 normal count p i j))
 
   from_four : (p : ℕ → Projected) (o : Option ℕ) → length (kept_from normal count p o) ≤ 4
   unfolding kept_from
-  from_four p none = omega arith
-  from_four p (some i) = beside_four p i (point2 count p i)
+  from_four p None = omega arith
+  from_four p (Some i) = beside_four p i (point2 count p i)
 
   pub kept_four : (point : ℕ → PrunePoint) → length (kept normal count point) ≤ 4
   unfolding kept

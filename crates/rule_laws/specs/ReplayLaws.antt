@@ -1,11 +1,10 @@
 -- The replay claim: after any run, what the replay of its constraint changes holds is what the graph holds. Assumes nothing.
 use Prim.Native.Nat.{ℕ, zero, suc, ◌+◌, ◌-◌, ◌≤◌, ◌<◌}
-use Rattle.std.specs.Prelude.{◌≡◌, refl, ◌≢◌, Bool, ◌&&◌, eqb, T, get_or, take, ℤ, pos}
+use Rattle.std.specs.Prelude.{◌≡◌, refl, ◌≢◌, Bool, ◌&&◌, eqb, T, get_or, take, ℤ, pos, Option, None, Some}
 use Rattle.std.proofs.Math.Path.{sym, ap, subst₂}
 use Rattle.std.proofs.Common.{subst, ◌∙◌, length-take-le}
 use Rattle.std.proofs.Math.Bool.{true, false, cond}
 use mathlib.Core.List.{List, [], ◌∷◌, ◌++◌, map, map-map, Memᴰ}
-use Rattle.std.proofs.Math.Option.{Option, none, some}
 use native.Mathlib.Omega.{arith}
 use Rattle.std.proofs.Math.Decide.{dec_le}
 use Rattle.std.proofs.Math.Dec.{eqb-suc-zero}
@@ -49,7 +48,7 @@ replay_run (e ∷ es) g h = replay_run es (plain_call e g).graph (replay_entry e
 abbrev pub ReplayHolds : Type 0
 ReplayHolds =
     (n : ℕ) (es : List Entry) → Provisos es (empty_graph n) → Room es (empty_graph n) →
-    (id : ℕ) → replay_run es (empty_graph n) (λ _. none) id ≡ held_in (plain_graph es (empty_graph n)).pairs id
+    (id : ℕ) → replay_run es (empty_graph n) (λ _. None) id ≡ held_in (plain_graph es (empty_graph n)).pairs id
 
 -- ---- a graph between calls
 
@@ -74,8 +73,8 @@ held_in_at [] k = refl
 held_in_at (p ∷ ps) k = go (eqb p.names.id k) (held_in_at ps k)
   where
     go : (t : Bool) → held_in ps k ≡ held_at ps k →
-        cond t (cond (p.flags.touching && p.flags.generate_constraints) (some (pos (length p.manifolds))) none) (held_in ps k) ≡
-        held_b (mapped brief (cond t (some p) (find k ps)))
+        cond t (cond (p.flags.touching && p.flags.generate_constraints) (Some (pos (length p.manifolds))) None) (held_in ps k) ≡
+        held_b (mapped brief (cond t (Some p) (find k ps)))
     go true e = refl
     go false e = e
 
@@ -94,7 +93,7 @@ within g s x h = go (dec_le (suc x) g.given)
     go (no n) = absurd (omega (arith, s.never x (omega arith)))
 
 -- by membership: a pair of the list is quiet, is found under its id, and its id was given; a graph that is not full has room
-pub sound_find : (g : Graph) → Sound g → (p : Pair) → Memᴰ p g.pairs → find p.names.id g.pairs ≡ some p
+pub sound_find : (g : Graph) → Sound g → (p : Pair) → Memᴰ p g.pairs → find p.names.id g.pairs ≡ Some p
 sound_find g s p m = mem_find g.pairs p (omega (arith, at_most g s p.names.id)) m
 
 pub sound_quiet : (g : Graph) → Sound g → (p : Pair) → Memᴰ p g.pairs → Quiet (brief p)
@@ -109,8 +108,8 @@ sound_room g s n = omega (arith, s.sized, s.fits)
 -- ---- what is found in lists that were mapped
 
 abbrev pub bit_at : Inputs → Option Pair → Bool
-bit_at i none = false
-bit_at i (some p) = (updated i p).bit
+bit_at i None = false
+bit_at i (Some p) = (updated i p).bit
 
 bit_of_find : (i : Inputs) (k : ℕ) (ps : List Pair) → bit_of k (map (updated i) ps) ≡ bit_at i (find k ps)
 unfolding bit_of find
@@ -119,20 +118,20 @@ bit_of_find i k (p ∷ ps) =
     ap (λ (n : Names). cond (eqb n.id k) (updated i p).bit (bit_of k (map (updated i) ps))) (names_kept i p) ∙ go (eqb p.names.id k) (bit_of_find i k ps)
   where
     go : (t : Bool) → bit_of k (map (updated i) ps) ≡ bit_at i (find k ps) →
-        cond t (updated i p).bit (bit_of k (map (updated i) ps)) ≡ bit_at i (cond t (some p) (find k ps))
+        cond t (updated i p).bit (bit_of k (map (updated i) ps)) ≡ bit_at i (cond t (Some p) (find k ps))
     go true e = refl
     go false e = e
 
 abbrev pub count_at : Option Pair → ℤ
-count_at none = pos 0
-count_at (some p) = pos (length p.manifolds)
+count_at None = pos 0
+count_at (Some p) = pos (length p.manifolds)
 
 pub manifolds_of_find : (k : ℕ) (ps : List Pair) → manifolds_of k ps ≡ count_at (find k ps)
 unfolding manifolds_of find
 manifolds_of_find k [] = refl
 manifolds_of_find k (p ∷ ps) = go (eqb p.names.id k) (manifolds_of_find k ps)
   where
-    go : (t : Bool) → manifolds_of k ps ≡ count_at (find k ps) → cond t (pos (length p.manifolds)) (manifolds_of k ps) ≡ count_at (cond t (some p) (find k ps))
+    go : (t : Bool) → manifolds_of k ps ≡ count_at (find k ps) → cond t (pos (length p.manifolds)) (manifolds_of k ps) ≡ count_at (cond t (Some p) (find k ps))
     go true e = refl
     go false e = e
 
@@ -176,42 +175,42 @@ module _ (i : Inputs) (g : Graph) (s : Sound g) where
   pass = passed (pass_bits i g) (pass_start i g) (λ x. omega (arith, at_most g s x, start_tally i g x))
 
   pub bits : (k : ℕ) (o : Option Pair) → find k g.pairs ≡ o → tally k (pass_bits i g) ≡ cond (bit_at i o) 1 0
-  bits k none e = go (dec_le (suc k) g.capacity)
+  bits k None e = go (dec_le (suc k) g.capacity)
     where
       go : Dec (k < g.capacity) → tally k (pass_bits i g) ≡ 0
       go (yes l) =
           bits_in g.capacity k 0 (map (updated i) g.pairs) (omega arith) (omega arith)
           ∙ ap (λ (t : Bool). cond t 1 0) (bit_of_find i k g.pairs ∙ ap (bit_at i) e)
       go (no n) = bits_above g.capacity k 0 (map (updated i) g.pairs) (omega arith)
-  bits k (some p) e =
+  bits k (Some p) e =
       bits_in g.capacity k 0 (map (updated i) g.pairs) (omega arith)
       (omega (arith, s.fits, within g s k (omega (arith, find_counted k g.pairs p e))))
       ∙ ap (λ (t : Bool). cond t 1 0) (bit_of_find i k g.pairs ∙ ap (bit_at i) e)
 
-  pub end_find : (k : ℕ) (p : Pair) → find k g.pairs ≡ some p → (t : Bool) → tally k (pass_bits i g) ≡ cond t 1 0 →
+  pub end_find : (k : ℕ) (p : Pair) → find k g.pairs ≡ Some p → (t : Bool) → tally k (pass_bits i g) ≡ cond t 1 0 →
       find k (pass_end i g).graph.pairs ≡ outcome_of (updated i p).pair t
   end_find k p e true z = pass.seen k z ∙ ap becoming (start_find i g k ∙ ap (mapped (λ (p : Pair). (updated i p).pair)) e)
   end_find k p e false z = pass.unseen k z ∙ start_find i g k ∙ ap (mapped (λ (p : Pair). (updated i p).pair)) e
 
-  pub end_replayed : (ps : List Pair) (h : Held) (k : ℕ) (p : Pair) → find k g.pairs ≡ some p → (t : Bool) → tally k (pass_bits i g) ≡ cond t 1 0 →
-      replay ps (pass_end i g).changes h k ≡ cond t (replay ps (visit_changes (some (updated i p).pair)) h k) (h k)
+  pub end_replayed : (ps : List Pair) (h : Held) (k : ℕ) (p : Pair) → find k g.pairs ≡ Some p → (t : Bool) → tally k (pass_bits i g) ≡ cond t 1 0 →
+      replay ps (pass_end i g).changes h k ≡ cond t (replay ps (visit_changes (Some (updated i p).pair)) h k) (h k)
   unfolding replay
   end_replayed ps h k p e true z =
       pass.replayed ps h k z ∙ ap (λ (o : Option Pair). replay ps (visit_changes o) h k) (start_find i g k ∙ ap (mapped (λ (p : Pair). (updated i p).pair)) e)
   end_replayed ps h k p e false z = pass.silent ps h k z
 
-  pub end_none : (k : ℕ) → find k g.pairs ≡ none → find k (pass_end i g).graph.pairs ≡ none
-  end_none k e = pass.unseen k (bits k none e) ∙ start_find i g k ∙ ap (mapped (λ (p : Pair). (updated i p).pair)) e
+  pub end_none : (k : ℕ) → find k g.pairs ≡ None → find k (pass_end i g).graph.pairs ≡ None
+  end_none k e = pass.unseen k (bits k None e) ∙ start_find i g k ∙ ap (mapped (λ (p : Pair). (updated i p).pair)) e
 
   -- what was found under an id is quiet again
   end_quiet : (k : ℕ) → Quieted (mapped brief (find k (pass_end i g).graph.pairs))
   end_quiet k = go (find k g.pairs) refl
     where
       go : (o : Option Pair) → find k g.pairs ≡ o → Quieted (mapped brief (find k (pass_end i g).graph.pairs))
-      go none e = subst (λ (o : Option Pair). Quieted (mapped brief o)) (sym (end_none k e)) tt
-      go (some p) e =
+      go None e = subst (λ (o : Option Pair). Quieted (mapped brief o)) (sym (end_none k e)) tt
+      go (Some p) e =
           let t = (updated i p).bit in
-          subst Quieted (sym (ap (mapped brief) (end_find k p e t (bits k (some p) e)) ∙ outcome_of_brief (updated i p).pair t))
+          subst Quieted (sym (ap (mapped brief) (end_find k p e t (bits k (Some p) e)) ∙ outcome_of_brief (updated i p).pair t))
           (quieted p (updated i p) (outcome i p) (subst (λ (o : Option Pair). Quieted (mapped brief o)) e (s.quiet k)))
 
   end_sound : Sound (pass_end i g).graph
@@ -224,18 +223,18 @@ module _ (i : Inputs) (g : Graph) (s : Sound g) where
   }
 
   -- what the replay has of an id is what is to be held of it
-  held_none : (h : Held) → Holds g h → (k : ℕ) → find k g.pairs ≡ none →
+  held_none : (h : Held) → Holds g h → (k : ℕ) → find k g.pairs ≡ None →
       replay (after_updates i g) (pass_end i g).changes h k ≡ held_at (pass_end i g).graph.pairs k
   unfolding replay
-  held_none h w k e = pass.silent (after_updates i g) h k (bits k none e) ∙ w k ∙ ap (λ (o : Option Pair). held_b (mapped brief o)) (e ∙ sym (end_none k e))
+  held_none h w k e = pass.silent (after_updates i g) h k (bits k None e) ∙ w k ∙ ap (λ (o : Option Pair). held_b (mapped brief o)) (e ∙ sym (end_none k e))
 
-  held_some : (h : Held) → Holds g h → (p : Pair) → names_both (updated i p).pair → keeps_generating i p → find p.names.id g.pairs ≡ some p →
+  held_some : (h : Held) → Holds g h → (p : Pair) → names_both (updated i p).pair → keeps_generating i p → find p.names.id g.pairs ≡ Some p →
       replay (after_updates i g) (pass_end i g).changes h p.names.id ≡ held_at (pass_end i g).graph.pairs p.names.id
   held_some h w p b k e =
       let q = (updated i p).pair in
       let t = (updated i p).bit in
       let ps = after_updates i g in
-      let z : tally p.names.id (pass_bits i g) ≡ cond t 1 0 = bits p.names.id (some p) e in
+      let z : tally p.names.id (pass_bits i g) ≡ cond t 1 0 = bits p.names.id (Some p) e in
       end_replayed ps h p.names.id p e t z
       ∙ ap (λ (cs : List Change). cond t (replay ps cs h p.names.id) (h p.names.id)) (visit_changes_brief q ∙ ap (changes_for_b (verdict_b (brief q)) (brief q)) (names_kept i p))
       ∙ settled ps h p (updated i p) (outcome i p) (subst (λ (o : Option Pair). Quieted (mapped brief o)) e (s.quiet p.names.id)) b k
@@ -249,8 +248,8 @@ module _ (i : Inputs) (g : Graph) (s : Sound g) where
   end_held h w pr k = go (find k g.pairs) refl
     where
       go : (o : Option Pair) → find k g.pairs ≡ o → replay (after_updates i g) (pass_end i g).changes h k ≡ held_at (pass_end i g).graph.pairs k
-      go none e = held_none h w k e
-      go (some p) e =
+      go None e = held_none h w k e
+      go (Some p) e =
           let n : p.names.id ≡ k = find_id k g.pairs p e in
           let m = pr p (find_mem k g.pairs p e) in
           subst (λ (k : ℕ). replay (after_updates i g) (pass_end i g).changes h k ≡ held_at (pass_end i g).graph.pairs k) n
@@ -280,8 +279,8 @@ unfolding stripped
 written_names w p = ap (λ (q : Pair). q.names) (written_kept w p)
 
 mapped_brief : (w : Write) (o : Option Pair) → mapped brief (mapped (pair_written w) o) ≡ mapped brief o
-mapped_brief w none = refl
-mapped_brief w (some p) = ap {B = Option Brief} some (written_brief w p)
+mapped_brief w None = refl
+mapped_brief w (Some p) = ap {B = Option Brief} Some (written_brief w p)
 
 write_find : (w : Write) (ps : List Pair) (k : ℕ) → mapped brief (find k (map (pair_written w) ps)) ≡ mapped brief (find k ps)
 write_find w ps k = ap (mapped brief) (find_map (pair_written w) (written_names w) k ps) ∙ mapped_brief w (find k ps)
@@ -328,7 +327,7 @@ fresh a id = record {
   manifolds = [];
   count_change = pos 0;
   speculative = a.speculative;
-  cache = none;
+  cache = None;
 }
 
 fresh_quiet : (a : Addition) (id : ℕ) → Quiet (brief (fresh a id))
@@ -338,25 +337,25 @@ module _ (a : Addition) (id : ℕ) (ps : List Pair) where
   added_tally : (x : ℕ) → tally x (ids (ps ++ (fresh a id ∷ []))) ≡ tally x (ids ps) + cond (eqb id x) 1 0
   added_tally x = tally_ids_append x ps (fresh a id ∷ []) ∙ ap (λ (n : ℕ). tally x (ids ps) + n) (tally_one x id)
 
-  added_find : (k : ℕ) → find k (ps ++ (fresh a id ∷ [])) ≡ first (find k ps) (cond (eqb id k) (some (fresh a id)) none)
+  added_find : (k : ℕ) → find k (ps ++ (fresh a id ∷ [])) ≡ first (find k ps) (cond (eqb id k) (Some (fresh a id)) None)
   unfolding find
   added_find k = find_append k ps (fresh a id ∷ [])
 
   added_quiet : (k : ℕ) → Quieted (mapped brief (find k ps)) → Quieted (mapped brief (find k (ps ++ (fresh a id ∷ []))))
   added_quiet k q = subst (λ (o : Option Pair). Quieted (mapped brief o)) (sym (added_find k)) (go (find k ps) (eqb id k) q)
     where
-      go : (o : Option Pair) (t : Bool) → Quieted (mapped brief o) → Quieted (mapped brief (first o (cond t (some (fresh a id)) none)))
-      go (some p) t q = q
-      go none true q = fresh_quiet a id
-      go none false q = q
+      go : (o : Option Pair) (t : Bool) → Quieted (mapped brief o) → Quieted (mapped brief (first o (cond t (Some (fresh a id)) None)))
+      go (Some p) t q = q
+      go None true q = fresh_quiet a id
+      go None false q = q
 
   added_held : (k : ℕ) → held_at ps k ≡ held_at (ps ++ (fresh a id ∷ [])) k
   added_held k = go (find k ps) (eqb id k) ∙ ap (λ (o : Option Pair). held_b (mapped brief o)) (sym (added_find k))
     where
-      go : (o : Option Pair) (t : Bool) → held_b (mapped brief o) ≡ held_b (mapped brief (first o (cond t (some (fresh a id)) none)))
-      go (some p) t = refl
-      go none true = refl
-      go none false = refl
+      go : (o : Option Pair) (t : Bool) → held_b (mapped brief o) ≡ held_b (mapped brief (first o (cond t (Some (fresh a id)) None)))
+      go (Some p) t = refl
+      go None true = refl
+      go None false = refl
 
 -- the id freed last is taken away
 tally_last : (x y : ℕ) (ys : List ℕ) → tally x (take (length ys) (y ∷ ys)) + cond (eqb (get_or (y ∷ ys) (length ys) 0) x) 1 0 ≡ tally x (y ∷ ys)
@@ -461,11 +460,11 @@ pub empty_sound : (n : ℕ) → Sound (empty_graph n)
 unfolding find tally
 empty_sound n = record { once = λ x l. absurd (omega arith); never = λ x l. refl; sized = refl; fits = omega arith; quiet = λ k. tt }
 
-pub empty_holds : (n : ℕ) → Holds (empty_graph n) (λ _. none)
+pub empty_holds : (n : ℕ) → Holds (empty_graph n) (λ _. None)
 unfolding find
 empty_holds n k = refl
 
 -- the replay claim
 pub replay_holds : ReplayHolds
 replay_holds n es p q id =
-    run_holds es (empty_graph n) (λ _. none) (empty_sound n) (empty_holds n) p q id ∙ sym (held_in_at (plain_graph es (empty_graph n)).pairs id)
+    run_holds es (empty_graph n) (λ _. None) (empty_sound n) (empty_holds n) p q id ∙ sym (held_in_at (plain_graph es (empty_graph n)).pairs id)

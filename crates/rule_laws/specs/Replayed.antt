@@ -1,6 +1,5 @@
 -- The replay of a plain run from its answers alone, and the room that an accepted addition finds: what the replay's proof speaks of. Definitions only.
-use Rattle.std.specs.Prelude.{ℕ, ◌<◌, ◌≡◌, List, [], ◌∷◌, eqb, T, length}
-use Rattle.std.proofs.Math.Option.{none}
+use Rattle.std.specs.Prelude.{ℕ, ◌<◌, ◌≡◌, List, [], ◌∷◌, eqb, T, length, None}
 use Rattle.rules.specs.Graph.{Graph, empty_graph}
 use Rattle.rules.specs.Runs.{Entry, addition, stepping, impulses, Answer, refused, added, stepped, silent, After, plain_call, plain_run, plain_graph, Held, replay, held_in, Provisos}
 
@@ -32,4 +31,4 @@ Room (e ∷ es) g = RoomAt e g × Room es (plain_call e g).graph
 abbrev pub AnswersReplayHolds : Type 0
 AnswersReplayHolds =
     (n : ℕ) (es : List Entry) → Provisos es (empty_graph n) → Room es (empty_graph n) →
-    (id : ℕ) → replay_answers (plain_run es (empty_graph n)) (λ _. none) id ≡ held_in (plain_graph es (empty_graph n)).pairs id
+    (id : ℕ) → replay_answers (plain_run es (empty_graph n)) (λ _. None) id ≡ held_in (plain_graph es (empty_graph n)).pairs id

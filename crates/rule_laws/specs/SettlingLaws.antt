@@ -1,10 +1,9 @@
 -- One pair through a step: if it was quiet before, then after its update and, where its bit is set, its visit it is quiet again,
 -- and what the replay makes of what was held of it is what is to be held of it. Assumes nothing.
-use Rattle.std.specs.Prelude.{ℕ, zero, suc, ◌≡◌, Bool, cond, not, ◌&&◌, List, [], ◌∷◌, eqb, T, length, ℤ, negsuc, ◌+ℤ◌, ◌-ℤ◌}
+use Rattle.std.specs.Prelude.{ℕ, zero, suc, ◌≡◌, Bool, cond, not, ◌&&◌, List, [], ◌∷◌, eqb, T, length, ℤ, negsuc, ◌+ℤ◌, ◌-ℤ◌, Option, None, Some}
 use Rattle.std.proofs.Math.Path.{refl, ap}
 use Rattle.std.proofs.Common.{sym, subst, subst₂, ◌∙◌, true≢false}
 use Rattle.std.proofs.Math.Bool.{true, false}
-use Rattle.std.proofs.Math.Option.{Option, none, some}
 use Rattle.std.proofs.Math.IntN.{pos, -ℤ-+ℤ_cancel, +ℤ_comm, +ℤ_idl}
 use Rattle.rules.specs.Records.{Pair, Names}
 use Rattle.rules.specs.Update.{Updated, non_zero}
@@ -34,12 +33,12 @@ marked b edge on off begun c = record {
 }
 
 abbrev pub next_b : Verdict → Brief → Option Brief
-next_b vanishes b = none
-next_b starts b = some (marked b true false b.stopped false b.change)
-next_b stops b = some (marked b false b.started false b.begun b.change)
-next_b generates b = some (marked b b.edge b.started b.stopped false b.change)
-next_b recounts b = some (marked b b.edge b.started b.stopped b.begun (pos 0))
-next_b persists b = some b
+next_b vanishes b = None
+next_b starts b = Some (marked b true false b.stopped false b.change)
+next_b stops b = Some (marked b false b.started false b.begun b.change)
+next_b generates b = Some (marked b b.edge b.started b.stopped false b.change)
+next_b recounts b = Some (marked b b.edge b.started b.stopped b.begun (pos 0))
+next_b persists b = Some b
 
 abbrev pub changes_for_b : Verdict → Brief → Names → List Change
 changes_for_b vanishes b n = stop_if b.generating n
@@ -67,8 +66,8 @@ changes_for_brief persists p = refl
 
 -- what is to be held of a pair
 abbrev pub held_b : Option Brief → Option ℤ
-held_b none = none
-held_b (some b) = cond (b.touching && b.generating) (some (pos b.count)) none
+held_b None = None
+held_b (Some b) = cond (b.touching && b.generating) (Some (pos b.count)) None
 
 -- a pair between calls
 pub record Quiet (b : Brief) : Type 0 where
@@ -80,8 +79,8 @@ pub record Quiet (b : Brief) : Type 0 where
   pub filled : b.touching ≡ not (eqb b.count 0)
 
 abbrev pub Quieted : Option Brief → Type 0
-Quieted none = Unit {0}
-Quieted (some b) = Quiet b
+Quieted None = Unit {0}
+Quieted (Some b) = Quiet b
 
 -- ---- numbers
 
@@ -102,28 +101,28 @@ raised old new = +ℤ_comm (pos old) (pos new -ℤ pos old) ∙ -ℤ-+ℤ_cancel
 abbrev Both : Names → Type 0
 Both n = T (named n.body1) × T (named n.body2)
 
-stop_replayed : (ps : List Pair) (h : Held) (id c d : ℕ) (a b : Option ℕ) → Both (naming id c d a b) → replay ps (stop_if true (naming id c d a b)) h id ≡ none
+stop_replayed : (ps : List Pair) (h : Held) (id c d : ℕ) (a b : Option ℕ) → Both (naming id c d a b) → replay ps (stop_if true (naming id c d a b)) h id ≡ None
 unfolding replay replay_one
-stop_replayed ps h id c d none b t = absurd t.0
-stop_replayed ps h id c d (some x) none t = absurd t.1
-stop_replayed ps h id c d (some x) (some y) t = holding_same h id none
+stop_replayed ps h id c d None b t = absurd t.0
+stop_replayed ps h id c d (Some x) None t = absurd t.1
+stop_replayed ps h id c d (Some x) (Some y) t = holding_same h id None
 
 count_replayed : (ps : List Pair) (h : Held) (id c d : ℕ) (e : ℤ) (a b : Option ℕ) → Both (naming id c d a b) →
     replay ps (count_of (naming id c d a b) e) h id ≡ raised_by (h id) e
 unfolding replay replay_one
-count_replayed ps h id c d e none b t = absurd t.0
-count_replayed ps h id c d e (some x) none t = absurd t.1
-count_replayed ps h id c d e (some x) (some y) t = holding_same h id (raised_by (h id) e)
+count_replayed ps h id c d e None b t = absurd t.0
+count_replayed ps h id c d e (Some x) None t = absurd t.1
+count_replayed ps h id c d e (Some x) (Some y) t = holding_same h id (raised_by (h id) e)
 
-start_replayed : (ps : List Pair) (h : Held) (id : ℕ) → replay ps (start id ∷ []) h id ≡ some (manifolds_of id ps)
+start_replayed : (ps : List Pair) (h : Held) (id : ℕ) → replay ps (start id ∷ []) h id ≡ Some (manifolds_of id ps)
 unfolding replay replay_one
-start_replayed ps h id = holding_same h id (some (manifolds_of id ps))
+start_replayed ps h id = holding_same h id (Some (manifolds_of id ps))
 
 -- ---- settling
 
 -- the verdict v, the brief after the update, and whether the bit stands
 abbrev pub left_by : Verdict → Brief → Bool → Option Brief
-left_by v b bit = cond bit (next_b v b) (some b)
+left_by v b bit = cond bit (next_b v b) (Some b)
 
 -- what the replay has of the pair's id, once the pass is over
 abbrev pub held_after : List Pair → Held → Names → Verdict → Brief → Bool → Option ℤ
@@ -205,29 +204,29 @@ module _ (ps : List Pair) (h : Held) (n : Names) (old new : ℕ) (c : ℤ) (m : 
       let bit = anew_bit (before was gen begun old c) en now new in
       held_after ps h n (verdict_b b) b bit ≡ held_b (left_by (verdict_b b) b bit)
 
-  enters : replay ps (start n.id ∷ []) h n.id ≡ some (pos new)
-  enters = start_replayed ps h n.id ∙ ap {B = Option ℤ} some m
+  enters : replay ps (start n.id ∷ []) h n.id ≡ Some (pos new)
+  enters = start_replayed ps h n.id ∙ ap {B = Option ℤ} Some m
 
-  settle_apart : (gen begun en bit : Bool) → h n.id ≡ none →
+  settle_apart : (gen begun en bit : Bool) → h n.id ≡ None →
       held_after ps h n persists (anew (before false gen begun old c) en false new) bit ≡ held_b (left_by persists (anew (before false gen begun old c) en false new) bit)
   unfolding replay
   settle_apart gen begun en true e = e
   settle_apart gen begun en false e = e
 
-  settle_starts : (begun gen en : Bool) → h n.id ≡ none → Settles false true gen begun en
+  settle_starts : (begun gen en : Bool) → h n.id ≡ None → Settles false true gen begun en
   unfolding replay
   settle_starts begun gen false e = e
   settle_starts begun true true e = enters
   settle_starts begun false true e = enters
 
-  settle_stops : (begun gen en : Bool) → (T gen → T en) → (T en → Both n) → h n.id ≡ held_b (some (before true gen begun old c)) → Settles true false gen begun en
+  settle_stops : (begun gen en : Bool) → (T gen → T en) → (T en → Both n) → h n.id ≡ held_b (Some (before true gen begun old c)) → Settles true false gen begun en
   unfolding replay
   settle_stops begun true false k b e = absurd (k tt)
   settle_stops begun false false k b e = e
   settle_stops begun true true k b e = stop_replayed ps h n.id n.collider1 n.collider2 n.body1 n.body2 (b tt)
   settle_stops begun false true k b e = stop_replayed ps h n.id n.collider1 n.collider2 n.body1 n.body2 (b tt)
 
-  settle_stays : (gen en : Bool) → (T gen → T en) → (T en → Both n) → h n.id ≡ held_b (some (before true gen false old c)) → Settles true true gen false en
+  settle_stays : (gen en : Bool) → (T gen → T en) → (T en → Both n) → h n.id ≡ held_b (Some (before true gen false old c)) → Settles true true gen false en
   unfolding replay
   settle_stays true false k b e = absurd (k tt)
   settle_stays false false k b e = go (non_zero (pos new -ℤ pos old))
@@ -243,12 +242,12 @@ module _ (ps : List Pair) (h : Held) (n : Names) (old new : ℕ) (c : ℤ) (m : 
           ≡ held_b (left_by (pick false false false false z) (anew (before true true false old c) true true new) z)
       go true d =
           count_replayed ps h n.id n.collider1 n.collider2 (pos new -ℤ pos old) n.body1 n.body2 (b tt)
-          ∙ ap (λ (o : Option ℤ). raised_by o (pos new -ℤ pos old)) e ∙ ap {B = Option ℤ} some (raised old new)
-      go false d = e ∙ ap {B = Option ℤ} some (sym (unchanged old new d))
+          ∙ ap (λ (o : Option ℤ). raised_by o (pos new -ℤ pos old)) e ∙ ap {B = Option ℤ} Some (raised old new)
+      go false d = e ∙ ap {B = Option ℤ} Some (sym (unchanged old new d))
   settle_stays false true k b e = enters
 
   settle : (was now gen begun en : Bool) → was && begun ≡ false → (T was → T gen → T en) → (T en → Both n) →
-      h n.id ≡ held_b (some (before was gen begun old c)) → Settles was now gen begun en
+      h n.id ≡ held_b (Some (before was gen begun old c)) → Settles was now gen begun en
   settle false false gen begun en q k b e = settle_apart gen begun en (anew_bit (before false gen begun old c) en false new) e
   settle false true gen begun en q k b e = settle_starts begun gen en e
   settle true false gen begun en q k b e = settle_stops begun gen en (k tt) b e
@@ -256,11 +255,11 @@ module _ (ps : List Pair) (h : Held) (n : Names) (old new : ℕ) (c : ℤ) (m : 
   settle true true gen false en q k b e = settle_stays gen en (k tt) b e
 
 -- a pair found disjoint
-settle_parted : (ps : List Pair) (h : Held) (n : Names) (b : Brief) → (T b.generating → Both n) → h n.id ≡ held_b (some b) → held_after ps h n vanishes (parted b) true ≡ none
+settle_parted : (ps : List Pair) (h : Held) (n : Names) (b : Brief) → (T b.generating → Both n) → h n.id ≡ held_b (Some b) → held_after ps h n vanishes (parted b) true ≡ None
 unfolding replay
 settle_parted ps h n b w e = go b.touching b.generating w e
   where
-    go : (was gen : Bool) → (T gen → Both n) → h n.id ≡ cond (was && gen) (some (pos b.count)) none → replay ps (stop_if gen n) h n.id ≡ none
+    go : (was gen : Bool) → (T gen → Both n) → h n.id ≡ cond (was && gen) (Some (pos b.count)) None → replay ps (stop_if gen n) h n.id ≡ None
     go was true w e = stop_replayed ps h n.id n.collider1 n.collider2 n.body1 n.body2 (w tt)
     go true false w e = e
     go false false w e = e
@@ -281,7 +280,7 @@ quieted p u (renews en now new t n d f b) q =
 pub settled : (ps : List Pair) (h : Held) (p : Pair) (u : Updated) → Outcome p u → Quiet (brief p) →
     (T u.pair.flags.generate_constraints → T (named u.pair.names.body1) × T (named u.pair.names.body2)) →
     (T p.flags.touching → T p.flags.generate_constraints → T u.pair.flags.generate_constraints) →
-    manifolds_of p.names.id ps ≡ pos (length u.pair.manifolds) → h p.names.id ≡ held_b (some (brief p)) →
+    manifolds_of p.names.id ps ≡ pos (length u.pair.manifolds) → h p.names.id ≡ held_b (Some (brief p)) →
     held_after ps h p.names (verdict_b (brief u.pair)) (brief u.pair) u.bit ≡ held_b (left_by (verdict_b (brief u.pair)) (brief u.pair) u.bit)
 settled ps h p u o q w k m e = go o
   where
@@ -305,11 +304,11 @@ settled ps h p u o q w k m e = go o
 
 -- on pairs
 abbrev pub outcome_of : Pair → Bool → Option Pair
-outcome_of q bit = cond bit (becoming (some q)) (some q)
+outcome_of q bit = cond bit (becoming (Some q)) (Some q)
 
 pub outcome_of_brief : (q : Pair) (bit : Bool) → mapped brief (outcome_of q bit) ≡ left_by (verdict_b (brief q)) (brief q) bit
 outcome_of_brief q true = next_brief (verdict q) q
 outcome_of_brief q false = refl
 
-pub visit_changes_brief : (q : Pair) → visit_changes (some q) ≡ changes_for_b (verdict_b (brief q)) (brief q) q.names
+pub visit_changes_brief : (q : Pair) → visit_changes (Some q) ≡ changes_for_b (verdict_b (brief q)) (brief q) q.names
 visit_changes_brief q = changes_for_brief (verdict q) q

@@ -1,7 +1,6 @@
 -- One visit of the status pass: it changes the pair with that id, and no other, and lists the changes of `visit_changes`. Assumes nothing.
-use Rattle.std.specs.Prelude.{ℕ, suc, ◌+◌, ◌≤◌, ◌≡◌, refl, ◌≢◌, Bool, true, false, cond, List, [], ◌∷◌, ◌++◌, eqb, length, set}
+use Rattle.std.specs.Prelude.{ℕ, suc, ◌+◌, ◌≤◌, ◌≡◌, refl, ◌≢◌, Bool, true, false, cond, List, [], ◌∷◌, ◌++◌, eqb, length, set, Option, None, Some}
 use Rattle.std.proofs.Common.{sym, ap, subst, ◌∙◌, append-nil, arith, length-append, length-set}
-use Rattle.std.proofs.Math.Option.{Option, none, some}
 use Rattle.std.proofs.Math.Seq.{set-append_seam, get_or-append_seam}
 use Rattle.rules.specs.Records.{Pair}
 use Rattle.rules.specs.Graph.{swap_remove, pair_index}
@@ -10,12 +9,12 @@ use Rattle.rule_laws.specs.LookupLaws.{tally, ids, find, first, rotated, tally_a
 
 -- what becomes of the pair with an id, and which changes are listed
 abbrev pub becoming : Option Pair → Option Pair
-becoming none = none
-becoming (some p) = next (verdict p) p
+becoming None = None
+becoming (Some p) = next (verdict p) p
 
 abbrev pub visit_changes : Option Pair → List Change
-visit_changes none = []
-visit_changes (some p) = changes_for (verdict p) p
+visit_changes None = []
+visit_changes (Some p) = changes_for (verdict p) p
 
 -- what a visit of the id k does
 pub record Effect (k : ℕ) (s s' : Pass) : Type 0 where
@@ -38,7 +37,7 @@ pub tally_one : (x y : ℕ) → tally x (y ∷ []) ≡ cond (eqb y x) 1 0
 unfolding tally
 tally_one x y = omega arith
 
-find_seam : (x : ℕ) (xs : List Pair) (p : Pair) (ys : List Pair) → find x (xs ++ p ∷ ys) ≡ first (find x xs) (cond (eqb p.names.id x) (some p) (find x ys))
+find_seam : (x : ℕ) (xs : List Pair) (p : Pair) (ys : List Pair) → find x (xs ++ p ∷ ys) ≡ first (find x xs) (cond (eqb p.names.id x) (Some p) (find x ys))
 unfolding find
 find_seam x xs p ys = find_append x xs (p ∷ ys)
 
@@ -55,14 +54,14 @@ module _ (k : ℕ) (xs : List Pair) (p : Pair) (ys : List Pair) (i : p.names.id 
   anew_tally q n x =
       tally_seam x xs q ys ∙ ap (λ (m : ℕ). tally x (ids xs) + (cond (eqb m x) 1 0 + tally x (ids ys))) n ∙ sym (tally_seam x xs p ys)
 
-  anew_here : (q : Pair) → q.names.id ≡ p.names.id → find k (xs ++ q ∷ ys) ≡ some q
+  anew_here : (q : Pair) → q.names.id ≡ p.names.id → find k (xs ++ q ∷ ys) ≡ Some q
   anew_here q n =
-      find_seam k xs q ys ∙ ap (λ (o : Option Pair). first o (cond (eqb q.names.id k) (some q) (find k ys))) (find_none k xs (omega (arith, alone k xs p ys i (h k))))
-      ∙ ap (λ (b : Bool). cond b (some q) (find k ys)) (ap (λ (m : ℕ). eqb m k) (n ∙ i) ∙ eqb_same k)
+      find_seam k xs q ys ∙ ap (λ (o : Option Pair). first o (cond (eqb q.names.id k) (Some q) (find k ys))) (find_none k xs (omega (arith, alone k xs p ys i (h k))))
+      ∙ ap (λ (b : Bool). cond b (Some q) (find k ys)) (ap (λ (m : ℕ). eqb m k) (n ∙ i) ∙ eqb_same k)
 
   others_seam : (q : Pair) → q.names.id ≡ p.names.id → (j : ℕ) → j ≢ k → find j (xs ++ q ∷ ys) ≡ first (find j xs) (find j ys)
   others_seam q n j d =
-      find_seam j xs q ys ∙ ap (λ (b : Bool). first (find j xs) (cond b (some q) (find j ys))) (eqb_other q.names.id j (λ e. d (sym e ∙ n ∙ i)))
+      find_seam j xs q ys ∙ ap (λ (b : Bool). first (find j xs) (cond b (Some q) (find j ys))) (eqb_other q.names.id j (λ e. d (sym e ∙ n ∙ i)))
 
   anew_others : (q : Pair) → q.names.id ≡ p.names.id → (j : ℕ) → j ≢ k → find j (xs ++ q ∷ ys) ≡ find j (xs ++ p ∷ ys)
   anew_others q n j d = others_seam q n j d ∙ sym (others_seam p refl j d)
@@ -70,7 +69,7 @@ module _ (k : ℕ) (xs : List Pair) (p : Pair) (ys : List Pair) (i : p.names.id 
   gone_tally : (x : ℕ) → tally x (ids (xs ++ rotated ys)) + cond (eqb p.names.id x) 1 0 ≡ tally x (ids (xs ++ p ∷ ys))
   gone_tally x = omega (arith, tally_ids_append x xs (rotated ys), tally_rotated x ys, tally_seam x xs p ys)
 
-  gone_here : find k (xs ++ rotated ys) ≡ none
+  gone_here : find k (xs ++ rotated ys) ≡ None
   gone_here = find_none k (xs ++ rotated ys) (omega (arith, tally_ids_append k xs (rotated ys), tally_rotated k ys, alone k xs p ys i (h k)))
 
   gone_others : (j : ℕ) → j ≢ k → find j (xs ++ rotated ys) ≡ find j (xs ++ p ∷ ys)
@@ -83,7 +82,7 @@ pub visit_at_as : (s : Pass) (i : ℕ) (p : Pair) → visit_at s i p ≡ visit_a
 unfolding visit_at
 visit_at_as s i p = refl
 
-visit_found_at : (s : Pass) (xs : List Pair) (p : Pair) (ys : List Pair) → visit_found s (some (length xs)) (xs ++ p ∷ ys) ≡ visit_at s (length xs) p
+visit_found_at : (s : Pass) (xs : List Pair) (p : Pair) (ys : List Pair) → visit_found s (Some (length xs)) (xs ++ p ∷ ys) ≡ visit_at s (length xs) p
 unfolding visit_found
 visit_found_at s [] p ys = refl
 visit_found_at s (x ∷ xs) p ys = ap (visit_at s (suc (length xs))) (get_or-append_seam xs p ys x)
@@ -94,10 +93,10 @@ module _ (k : ℕ) (s : Pass) (xs : List Pair) (p : Pair) (ys : List Pair) (e : 
   bounded : (x : ℕ) → tally x (ids (xs ++ p ∷ ys)) ≤ 1
   bounded x = rw e at (h x)
 
-  standing : find k s.graph.pairs ≡ some p
+  standing : find k s.graph.pairs ≡ Some p
   standing = ap (find k) e ∙ anew_here k xs p ys i bounded p refl
 
-  effect_written : (q : Pair) (es : List Event) (cs : List Change) → q.names.id ≡ p.names.id → becoming (some p) ≡ some q → visit_changes (some p) ≡ cs →
+  effect_written : (q : Pair) (es : List Event) (cs : List Change) → q.names.id ≡ p.names.id → becoming (Some p) ≡ Some q → visit_changes (Some p) ≡ cs →
       Effect k s (written s (length xs) q es cs)
   effect_written q es cs n b c =
       let w : set s.graph.pairs (length xs) q ≡ xs ++ q ∷ ys = ap (λ (l : List Pair). set l (length xs) q) e ∙ set-append_seam xs p ys q in
@@ -112,7 +111,7 @@ module _ (k : ℕ) (s : Pass) (xs : List Pair) (p : Pair) (ys : List Pair) (e : 
         others = λ j d. ap (find j) w ∙ anew_others k xs p ys i bounded q n j d ∙ ap (find j) (sym e);
       }
 
-  effect_removed : (es : List Event) (cs : List Change) → becoming (some p) ≡ none → visit_changes (some p) ≡ cs → Effect k s (removed s (length xs) p es cs)
+  effect_removed : (es : List Event) (cs : List Change) → becoming (Some p) ≡ None → visit_changes (Some p) ≡ cs → Effect k s (removed s (length xs) p es cs)
   effect_removed es cs b c =
       let w : swap_remove s.graph.pairs (length xs) p ≡ xs ++ rotated ys = ap (λ (l : List Pair). swap_remove l (length xs) p) e ∙ swap_remove_at xs p p ys in
       record {
@@ -140,7 +139,7 @@ module _ (k : ℕ) (s : Pass) (xs : List Pair) (p : Pair) (ys : List Pair) (e : 
         others = λ j d. ap (find j) w ∙ gone_others k xs p ys i bounded j d ∙ ap (find j) (sym e);
       }
 
-  effect_none : becoming (some p) ≡ some p → visit_changes (some p) ≡ [] → Effect k s s
+  effect_none : becoming (Some p) ≡ Some p → visit_changes (Some p) ≡ [] → Effect k s s
   effect_none b c = record {
     capacity = refl;
     given = refl;
@@ -154,7 +153,7 @@ module _ (k : ℕ) (s : Pass) (xs : List Pair) (p : Pair) (ys : List Pair) (e : 
   effect_as : (v : Verdict) → verdict p ≡ v → Effect k s (visit_as s (length xs) p v)
   effect_as v n = go v (ap (λ (u : Verdict). next u p) n) (ap (λ (u : Verdict). changes_for u p) n)
     where
-      go : (v : Verdict) → becoming (some p) ≡ next v p → visit_changes (some p) ≡ changes_for v p → Effect k s (visit_as s (length xs) p v)
+      go : (v : Verdict) → becoming (Some p) ≡ next v p → visit_changes (Some p) ≡ changes_for v p → Effect k s (visit_as s (length xs) p v)
       go vanishes b c = effect_removed _ _ b c
       go starts b c = effect_written _ _ _ refl b c
       go stops b c = effect_written _ _ _ refl b c
@@ -162,7 +161,7 @@ module _ (k : ℕ) (s : Pass) (xs : List Pair) (p : Pair) (ys : List Pair) (e : 
       go recounts b c = effect_written _ _ _ refl b c
       go persists b c = effect_none b c
 
-effect_missing : (k : ℕ) (s : Pass) → find k s.graph.pairs ≡ none → Effect k s s
+effect_missing : (k : ℕ) (s : Pass) → find k s.graph.pairs ≡ None → Effect k s s
 effect_missing k s b = record {
   capacity = refl;
   given = refl;
@@ -182,5 +181,5 @@ visited k s h = go (place k s.graph.pairs)
     go (missing a b) = subst (λ (o : Option ℕ). Effect k s (visit_found s o s.graph.pairs)) (sym a) (effect_missing k s b)
     go (found xs p ys e i a b) =
         subst (Effect k s)
-        (sym (ap (λ (o : Option ℕ). visit_found s o s.graph.pairs) a ∙ ap (visit_found s (some (length xs))) e ∙ visit_found_at s xs p ys ∙ visit_at_as s (length xs) p))
+        (sym (ap (λ (o : Option ℕ). visit_found s o s.graph.pairs) a ∙ ap (visit_found s (Some (length xs))) e ∙ visit_found_at s xs p ys ∙ visit_at_as s (length xs) p))
         (effect_as k s xs p ys e i h (verdict p) refl)

@@ -1,6 +1,5 @@
 -- The graph as a plain value, and what lay out, add, look up and remove do to it: the specification, 'The door' and 'Status pass'. Definitions only.
-use Rattle.std.specs.Prelude.{ℕ, suc, ◌-◌, Bool, false, cond, List, [], ◌∷◌, ◌++◌, eqb, pos, Float, length, get_or, take, set}
-use Rattle.std.proofs.Math.Option.{Option, none, some}
+use Rattle.std.specs.Prelude.{ℕ, suc, ◌-◌, Bool, false, cond, List, [], ◌∷◌, ◌++◌, eqb, pos, Float, length, get_or, take, set, Option, None, Some}
 use Rattle.rules.specs.Records.{PairFlags, Pair}
 
 -- ids 0 to given - 1 were given; the free ones in the order freed; the pairs in the list's order
@@ -52,7 +51,7 @@ new_pair id a =
       manifolds = [];
       count_change = pos 0;
       speculative = a.speculative;
-      cache = none;
+      cache = None;
     }
 
 -- the pair is appended under its new id
@@ -67,13 +66,13 @@ plain_add a g =
 
 -- ---- look up and removal, by id
 abbrev pub later : Option ℕ → Option ℕ
-later none = none
-later (some i) = some (suc i)
+later None = None
+later (Some i) = Some (suc i)
 
 -- the place of a contact in the list
 unfoldable pub pair_index : ℕ → List Pair → Option ℕ
-pair_index id [] = none
-pair_index id (p ∷ ps) = cond (eqb p.names.id id) (some 0) (later (pair_index id ps))
+pair_index id [] = None
+pair_index id (p ∷ ps) = cond (eqb p.names.id id) (Some 0) (later (pair_index id ps))
 
 -- the last pair takes the gap's place
 unfoldable pub swap_remove : List Pair → ℕ → Pair → List Pair
@@ -84,9 +83,9 @@ abbrev pub removed_at : Graph → ℕ → Pair → Graph
 removed_at g i p = record { capacity = g.capacity; given = g.given; free = g.free ++ p.names.id ∷ []; pairs = swap_remove g.pairs i p }
 
 unfoldable pub removed_found : Graph → Option ℕ → List Pair → Graph
-removed_found g none ps = g
-removed_found g (some i) [] = g
-removed_found g (some i) (p ∷ ps) = removed_at g i (get_or (p ∷ ps) i p)
+removed_found g None ps = g
+removed_found g (Some i) [] = g
+removed_found g (Some i) (p ∷ ps) = removed_at g i (get_or (p ∷ ps) i p)
 
 unfoldable pub plain_remove : ℕ → Graph → Graph
 plain_remove id g = removed_found g (pair_index id g.pairs) g.pairs

@@ -1,6 +1,5 @@
 -- What a step takes, read into plain values: settings, colliders, bodies, proposals and hook answers (the specification, 'The door'). Definitions only.
-use Rattle.std.specs.Prelude.{ℕ, Bool, List, Float}
-use Rattle.std.proofs.Math.Option.{Option}
+use Rattle.std.specs.Prelude.{ℕ, Bool, List, Float, Option}
 use Rattle.math.specs.declared.pose.Pose.{Pose}
 use Rattle.math.specs.declared.vec.Vec3.{Vec3}
 
@@ -60,7 +59,7 @@ pub record ProposedManifold : Type 0 where
   pub normal : Vec3
   pub points : List ProposedPoint
 
--- colliders and bodies by number (an absent one is `none`), proposals and hook answers by contact id
+-- colliders and bodies by number (an absent one is `None`), proposals and hook answers by contact id
 pub record Inputs : Type 0 where
   pub settings : Settings
   pub collider : ℕ → Option Collider

@@ -1,6 +1,5 @@
 -- `match_contacts`: the specification, 'Matching and pruning', and rule 11. Definitions only.
-use Rattle.std.specs.Prelude.{ℕ, Bool, cond, not, ◌&&◌, ◌||◌, List, [], ◌∷◌, map, eqb, length, get_or, Float}
-use Rattle.std.proofs.Math.Option.{Option, none, some}
+use Rattle.std.specs.Prelude.{ℕ, Bool, cond, not, ◌&&◌, ◌||◌, List, [], ◌∷◌, map, eqb, length, get_or, Float, Option, None, Some}
 use Rattle.std.specs.Float.Ieee.{lt}
 use Rattle.math.specs.Floats.{◌⊗◌}
 use Rattle.math.specs.Vec.{squared_distance}
@@ -61,8 +60,8 @@ with_impulses new old = record {
 }
 
 abbrev pub taking : List Point → Point → Option ℕ → Point
-taking olds new none = new
-taking olds new (some k) = with_impulses new (get_or olds k new)
+taking olds new None = new
+taking olds new (Some k) = with_impulses new (get_or olds k new)
 
 unfoldable pub matched_point : FeatureRule → Float → List Point → Point → Point
 matched_point same square olds new = taking olds new (source same square olds new)

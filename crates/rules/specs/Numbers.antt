@@ -1,17 +1,16 @@
 -- Searches through the numbers below n, in order: the first that passes a test, and the one that leads by a value. Definitions only.
-use Rattle.std.specs.Prelude.{ℕ, zero, suc, Bool, true, false, cond, ◌&&◌, ◌||◌, Float}
-use Rattle.std.proofs.Math.Option.{Option, none, some}
+use Rattle.std.specs.Prelude.{ℕ, zero, suc, Bool, true, false, cond, ◌&&◌, ◌||◌, Float, Option, None, Some}
 use Rattle.std.specs.Float.Ieee.{lt}
 
 -- what is found already, else k where it passes
 abbrev pub else : Option ℕ → Bool → ℕ → Option ℕ
-else (some i) passes k = some i
-else none true k = some k
-else none false k = none
+else (Some i) passes k = Some i
+else None true k = Some k
+else None false k = None
 
 -- the first number below n that passes the test
 unfoldable pub first : (ℕ → Bool) → ℕ → Option ℕ
-first test zero = none
+first test zero = None
 first test (suc k) = else (first test k) (test k) k
 
 -- a value, and which number has it, if any
@@ -31,11 +30,11 @@ less new old = lt new old
 
 -- k leads where it takes part and its value is better
 abbrev pub overtaken : Better → (ℕ → Float) → (ℕ → Bool) → ℕ → Leading → Leading
-overtaken better value among k l = cond (among k && better (value k) l.value) (record { value = value k; who = some k }) l
+overtaken better value among k l = cond (among k && better (value k) l.value) (record { value = value k; who = Some k }) l
 
 -- Among the numbers below n that take part, the earliest of those with the best value, where that is better than the start.
 unfoldable pub leader : Better → (ℕ → Float) → (ℕ → Bool) → Float → ℕ → Leading
-leader better value among start zero = record { value = start; who = none }
+leader better value among start zero = record { value = start; who = None }
 leader better value among start (suc k) = overtaken better value among k (leader better value among start k)
 
 -- every number below n passes, and some number below n passes

@@ -1,6 +1,5 @@
 -- `prune_points`: the specification, 'Matching and pruning'. Points go by their numbers from 0, in the order given. Definitions only.
-use Rattle.std.specs.Prelude.{ℕ, Bool, true, not, ◌&&◌, List, [], ◌∷◌, ◌++◌, eqb, Float}
-use Rattle.std.proofs.Math.Option.{Option, none, some}
+use Rattle.std.specs.Prelude.{ℕ, Bool, true, not, ◌&&◌, List, [], ◌∷◌, ◌++◌, eqb, Float, Option, None, Some}
 use Rattle.math.specs.Floats.{◌⊗◌}
 use Rattle.math.specs.Constants.{zero_f, tiny, lowest}
 use Rattle.math.specs.Choose.{maximum}
@@ -55,17 +54,17 @@ point4 normal count p i j = (leader greater (side_value normal p i j) (rest i j)
 
 -- a number or none, as a list
 abbrev pub listed : Option ℕ → List ℕ
-listed none = []
-listed (some i) = i ∷ []
+listed None = []
+listed (Some i) = i ∷ []
 
 -- output: 1, 3, 2, 4. That points 1 and 2 exist, of two points or more, is `point1_exists` and `point2_exists`
 unfoldable pub kept_beside : Vec3 → ℕ → (ℕ → Projected) → ℕ → Option ℕ → List ℕ
-kept_beside normal count p i none = i ∷ []
-kept_beside normal count p i (some j) = i ∷ listed (point3 normal count p i j) ++ j ∷ listed (point4 normal count p i j)
+kept_beside normal count p i None = i ∷ []
+kept_beside normal count p i (Some j) = i ∷ listed (point3 normal count p i j) ++ j ∷ listed (point4 normal count p i j)
 
 unfoldable pub kept_from : Vec3 → ℕ → (ℕ → Projected) → Option ℕ → List ℕ
-kept_from normal count p none = []
-kept_from normal count p (some i) = kept_beside normal count p i (point2 count p i)
+kept_from normal count p None = []
+kept_from normal count p (Some i) = kept_beside normal count p i (point2 count p i)
 
 -- the numbers of the points that stay, in the order of the output
 unfoldable pub kept : Vec3 → ℕ → (ℕ → PrunePoint) → List ℕ

@@ -1,6 +1,5 @@
 -- The records of the specification as plain values. An optional value is an `Option`, and a mark is a `Bool`. Definitions only.
-use Rattle.std.specs.Prelude.{ℕ, Bool, List, ℤ, Float}
-use Rattle.std.proofs.Math.Option.{Option}
+use Rattle.std.specs.Prelude.{ℕ, Bool, List, ℤ, Float, Option}
 use Rattle.math.specs.declared.quat.Quat.{Quat}
 use Rattle.math.specs.declared.vec.Vec2.{Vec2}
 use Rattle.math.specs.declared.vec.Vec3.{Vec3}

@@ -1,6 +1,5 @@
 -- Rules 4 and 5 of one pair's update: whether a pair is recycled, and what becomes of it. Definitions only.
-use Rattle.std.specs.Prelude.{Bool, false, cond, not, ◌&&◌, map, Float}
-use Rattle.std.proofs.Math.Option.{Option, none, some}
+use Rattle.std.specs.Prelude.{Bool, false, cond, not, ◌&&◌, map, Float, Option, None, Some}
 use Rattle.std.specs.Float.Ieee.{le}
 use Rattle.math.specs.Choose.{maximum, minimum}
 use Rattle.math.specs.Constants.{zero_f}
@@ -65,8 +64,8 @@ arc_too_long tolerance d2 arcLength = le (tolerance ⊖ root d2) arcLength
 
 -- no cache, and there is nothing to recycle; else no test abandons it
 unfoldable pub recycles : Settings → Bool → Side → Side → Option Cache → Bool
-recycles s touching a b none = false
-recycles s touching a b (some k) =
+recycles s touching a b None = false
+recycles s touching a b (Some k) =
     not (recycling_off s)
     && (not (rotated_too_far s (least_squared_dot a b k))
     && (not (moved_too_far (tolerance_for s touching) (squared_motion a b k))

@@ -1,8 +1,7 @@
 -- The plain run of a list of calls, the replay of its constraint changes, and what the two provisos of the replay say. Definitions only.
 -- A call's arguments are words; here they are read already, and `refusal` gives the table's number for them on a graph, 0 for none.
-use Rattle.std.specs.Prelude.{ℕ, zero, suc, Bool, true, false, cond, ◌&&◌, eqb, T, length, ℤ, pos, ◌+ℤ◌}
+use Rattle.std.specs.Prelude.{ℕ, zero, suc, Bool, true, false, cond, ◌&&◌, eqb, T, length, ℤ, pos, ◌+ℤ◌, Option, None, Some}
 use mathlib.Core.List.{List, [], ◌∷◌, Memᴰ}
-use Rattle.std.proofs.Math.Option.{Option, none, some}
 use Rattle.rules.specs.Inputs.{Inputs}
 use Rattle.rules.specs.Records.{Pair}
 use Rattle.rules.specs.Update.{updated}
@@ -63,14 +62,14 @@ manifolds_of id [] = pos 0
 manifolds_of id (p ∷ ps) = cond (eqb p.names.id id) (pos (length p.manifolds)) (manifolds_of id ps)
 
 abbrev pub raised_by : Option ℤ → ℤ → Option ℤ
-raised_by none d = none
-raised_by (some n) d = some (n +ℤ d)
+raised_by None d = None
+raised_by (Some n) d = Some (n +ℤ d)
 
 -- a start enters the contact with the number of manifolds that it then has; a stop strikes it; a count change adds, if it is held
 unfoldable pub replay_one : List Pair → Change → Held → Held
 unfolding manifolds_of
-replay_one ps (start id) h = holding h id (some (manifolds_of id ps))
-replay_one ps (stop id a b) h = holding h id none
+replay_one ps (start id) h = holding h id (Some (manifolds_of id ps))
+replay_one ps (stop id a b) h = holding h id None
 replay_one ps (count id a b d) h = holding h id (raised_by (h id) d)
 
 unfoldable pub replay : List Pair → List Change → Held → Held
@@ -81,8 +80,8 @@ replay ps (c ∷ cs) h = replay ps cs (replay_one ps c h)
 -- ---- the two provisos, of every step of the run that is not refused
 
 abbrev pub named : Option ℕ → Bool
-named none = false
-named (some b) = true
+named None = false
+named (Some b) = true
 
 -- a generating pair names both its bodies
 abbrev pub names_both : Pair → Type 0
@@ -94,10 +93,10 @@ keeps_generating i p = T p.flags.touching → T p.flags.generate_constraints →
 
 -- what the graph holds: the contacts that touch and generate, each with its manifold count
 unfoldable pub held_in : List Pair → ℕ → Option ℤ
-held_in [] id = none
+held_in [] id = None
 held_in (p ∷ ps) id =
     cond (eqb p.names.id id)
-    (cond (p.flags.touching && p.flags.generate_constraints) (some (pos (length p.manifolds))) none)
+    (cond (p.flags.touching && p.flags.generate_constraints) (Some (pos (length p.manifolds))) None)
     (held_in ps id)
 
 -- the two provisos at an entry, and along a run

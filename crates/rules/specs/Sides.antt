@@ -1,6 +1,5 @@
 -- Rules 2 and 3 of one pair's update: overlap, layers, and what is read of each side's body. Definitions only.
-use Rattle.std.specs.Prelude.{ℕ, Bool, true, false, not, ◌&&◌, eqb, Float}
-use Rattle.std.proofs.Math.Option.{Option, none, some}
+use Rattle.std.specs.Prelude.{ℕ, Bool, true, false, not, ◌&&◌, eqb, Float, Option, None, Some}
 use Rattle.std.specs.Int.Bits.{bit_and}
 use Rattle.std.specs.Float.Ieee.{le}
 use Rattle.math.specs.Constants.{zero_f}
@@ -49,7 +48,7 @@ pub record Side : Type 0 where
 
 -- an absent body gives zeros (offset to the collider too), identity rotation and not static
 unfoldable pub side_of : Collider → Option Body → Side
-side_of c none =
+side_of c None =
     record {
       present = false;
       is_static = false;
@@ -58,12 +57,12 @@ side_of c none =
       pose = record { position = zero3; rotation = identity };
       linear_velocity = zero3;
       angular_velocity = zero3;
-      friction = none;
-      margin = none;
-      speculative_maximum = none;
+      friction = None;
+      margin = None;
+      speculative_maximum = None;
       sweep_radius = zero_f;
     }
-side_of c (some b) =
+side_of c (Some b) =
     record {
       present = true;
       is_static = b.is_static;

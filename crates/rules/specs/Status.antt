@@ -1,6 +1,5 @@
 -- The status pass over the standing status bits, and the plain step: the specification, 'Status pass'. Definitions only.
-use Rattle.std.specs.Prelude.{ℕ, zero, suc, ◌+◌, Bool, true, false, cond, ◌&&◌, List, [], ◌∷◌, map, ◌++◌, eqb, get_or, set, ℤ, pos, Float}
-use Rattle.std.proofs.Math.Option.{Option, none, some}
+use Rattle.std.specs.Prelude.{ℕ, zero, suc, ◌+◌, Bool, true, false, cond, ◌&&◌, List, [], ◌∷◌, map, ◌++◌, eqb, get_or, set, ℤ, pos, Float, Option, None, Some}
 use Rattle.math.specs.Constants.{zero_f}
 use Rattle.rules.specs.Graph.{Graph, pair_index, removed_at}
 use Rattle.rules.specs.Inputs.{Inputs}
@@ -35,17 +34,17 @@ stop_if false n = []
 stop_if true n = both n.body1 n.body2
   where
     both : Option ℕ → Option ℕ → List Change
-    both none o = []
-    both (some a) none = []
-    both (some a) (some b) = stop n.id a b ∷ []
+    both None o = []
+    both (Some a) None = []
+    both (Some a) (Some b) = stop n.id a b ∷ []
 
 abbrev pub count_of : Names → ℤ → List Change
 count_of n d = both n.body1 n.body2
   where
     both : Option ℕ → Option ℕ → List Change
-    both none o = []
-    both (some a) none = []
-    both (some a) (some b) = count n.id a b d ∷ []
+    both None o = []
+    both (Some a) None = []
+    both (Some a) (Some b) = count n.id a b d ∷ []
 
 -- the edge's TOUCHING, the pair's flags and its count change, set to these
 abbrev pub with_status : Pair → Bool → PairFlags → ℤ → Pair
@@ -154,12 +153,12 @@ count_settled p = with_status p p.edge.touching p.flags (pos 0)
 
 -- what becomes of the pair: a disjoint one is removed
 abbrev pub next : Verdict → Pair → Option Pair
-next vanishes p = none
-next starts p = some (start_settled p)
-next stops p = some (stop_settled p)
-next generates p = some (generating_settled p)
-next recounts p = some (count_settled p)
-next persists p = some p
+next vanishes p = None
+next starts p = Some (start_settled p)
+next stops p = Some (stop_settled p)
+next generates p = Some (generating_settled p)
+next recounts p = Some (count_settled p)
+next persists p = Some p
 
 abbrev pub visit_as : Pass → ℕ → Pair → Verdict → Pass
 visit_as s i p vanishes = removed s i p (events_for vanishes p) (changes_for vanishes p)
@@ -173,9 +172,9 @@ unfoldable pub visit_at : Pass → ℕ → Pair → Pass
 visit_at s i p = visit_as s i p (verdict p)
 
 unfoldable pub visit_found : Pass → Option ℕ → List Pair → Pass
-visit_found s none ps = s
-visit_found s (some i) [] = s
-visit_found s (some i) (p ∷ ps) = visit_at s i (get_or (p ∷ ps) i p)
+visit_found s None ps = s
+visit_found s (Some i) [] = s
+visit_found s (Some i) (p ∷ ps) = visit_at s i (get_or (p ∷ ps) i p)
 
 unfoldable pub visit : Pass → ℕ → Pass
 visit s id = visit_found s (pair_index id s.graph.pairs) s.graph.pairs

@@ -1,6 +1,6 @@
 -- Rules 7 and 8 of one pair's update: friction, restitution, margins, and the distance without them. Definitions only.
-use Rattle.std.specs.Prelude.{ℕ, cond, ◌||◌, eqb, ltb, Float}
-use Rattle.std.proofs.Math.Option.{Option, none, some}
+use Rattle.std.specs.Prelude.{ℕ, cond, ◌||◌, eqb, ltb, Float, Option, unwrap_or}
+use Rattle.std.specs.Option.{option_or}
 use Rattle.std.specs.Float.Ieee.{lt, ne}
 use Rattle.math.specs.Choose.{maximum, minimum}
 use Rattle.math.specs.Constants.{zero_f, half, one, largest}
@@ -12,14 +12,12 @@ use Rattle.rules.specs.Inputs.{Coefficient, Settings, Collider}
 use Rattle.rules.specs.Recycling.{scaled_tolerance}
 use Rattle.rules.specs.Sides.{Side}
 
-abbrev pub or_else {ℓ} : {A : Type ℓ} → Option A → A → A
-or_else none d = d
-or_else (some a) d = a
+abbrev pub or_else : {A : Type 0} → Option A → A → A
+or_else = unwrap_or
 
 -- the first that is given
-abbrev pub first_given {ℓ} : {A : Type ℓ} → Option A → Option A → Option A
-first_given none o = o
-first_given (some a) o = some a
+abbrev pub first_given : {A : Type 0} → Option A → Option A → Option A
+first_given = option_or
 
 -- ---- rule 7
 -- 1 (a + b) × 0.5, 2 root of a × b, 3 minimum, 4 product, 5 maximum

@@ -1,6 +1,5 @@
 -- One pair's update, rules 1 to 12 of the specification, on plain values. Definitions only.
-use Rattle.std.specs.Prelude.{ℕ, zero, suc, Bool, true, false, cond, not, ◌&&◌, ◌||◌, List, [], map, leb, ℤ, pos, negsuc, ◌-ℤ◌, Float, length}
-use Rattle.std.proofs.Math.Option.{Option, none, some}
+use Rattle.std.specs.Prelude.{ℕ, zero, suc, Bool, true, false, cond, not, ◌&&◌, ◌||◌, List, [], map, leb, ℤ, pos, negsuc, ◌-ℤ◌, Float, length, Option, None, Some}
 use Rattle.math.specs.Constants.{zero_f, tenth}
 use Rattle.math.specs.Floats.{◌⊕◌, ◌⊗◌}
 use Rattle.math.specs.Pose.{relative}
@@ -34,8 +33,8 @@ pub record Updated : Type 0 where
 
 -- the body that a collider names
 abbrev pub body_of : (ℕ → Option Body) → Option ℕ → Option Body
-body_of body none = none
-body_of body (some n) = body n
+body_of body None = None
+body_of body (Some n) = body n
 
 -- rule 2: only the speculative distance and the mark change
 abbrev pub disjoint_flags : PairFlags → PairFlags
@@ -160,23 +159,23 @@ renewed s answer proposal c1 c2 a b p =
       manifolds = matched s p.manifolds news;
       count_change = change;
       speculative = zero_f;
-      cache = some (cache_of a b);
+      cache = Some (cache_of a b);
     } in
     record { pair = q; way = full; bit = status_bit p.flags on touching change; max_contact_distance = f.margins ⊕ f.effective_speculative }
 
 -- Rules 4 to 12, once the boxes overlap and the layers interact: whether the pair is recycled, and its cache.
 -- A recycled pair has a cache; with no cache, recycling is abandoned (rule 4).
 unfoldable pub overlapping : Settings → Bool → List ProposedManifold → Collider → Collider → Side → Side → Pair → Bool → Option Cache → Updated
-overlapping s answer proposal c1 c2 a b p true (some k) = record { pair = recycled_pair a b k p; way = recycled; bit = false; max_contact_distance = zero_f }
-overlapping s answer proposal c1 c2 a b p true none = renewed s answer proposal c1 c2 a b p
+overlapping s answer proposal c1 c2 a b p true (Some k) = record { pair = recycled_pair a b k p; way = recycled; bit = false; max_contact_distance = zero_f }
+overlapping s answer proposal c1 c2 a b p true None = renewed s answer proposal c1 c2 a b p
 overlapping s answer proposal c1 c2 a b p false k = renewed s answer proposal c1 c2 a b p
 
 -- Rules 1 to 12, from the settings, the bodies, the hook's answer, the proposal, the pair and its two colliders.
 -- Rule 1: either collider absent, and the pair is skipped, nothing in it changes.
 unfoldable pub updated_between : Settings → (ℕ → Option Body) → Bool → List ProposedManifold → Pair → Option Collider → Option Collider → Updated
-updated_between s body answer proposal p none c2 = record { pair = p; way = skipped; bit = false; max_contact_distance = zero_f }
-updated_between s body answer proposal p (some c1) none = record { pair = p; way = skipped; bit = false; max_contact_distance = zero_f }
-updated_between s body answer proposal p (some c1) (some c2) =
+updated_between s body answer proposal p None c2 = record { pair = p; way = skipped; bit = false; max_contact_distance = zero_f }
+updated_between s body answer proposal p (Some c1) None = record { pair = p; way = skipped; bit = false; max_contact_distance = zero_f }
+updated_between s body answer proposal p (Some c1) (Some c2) =
     let a = side_of c1 (body_of body c1.body) in
     let b = side_of c2 (body_of body c2.body) in
     cond (overlap c1 c2 p.speculative && interact c1 c2)

@@ -1,12 +1,8 @@
 // Pairs of neighbours: all at the start, and then each that is near. One that stands already is refused.
 use crate::places::position;
 use case_draws::draws::slot;
-use contact_graph::add::{AddAnswer, add};
+use contact_graph::add::add;
 use contact_graph::call::Request;
-
-fn mark(b: bool) -> u32 {
-    if b { 1 } else { 0 }
-}
 
 // Box n and what lies below it. Every third has no events, every fourth asks the hook, every second has a speculative distance.
 fn request(below: u32) -> Request {
@@ -18,16 +14,9 @@ fn request(below: u32) -> Request {
         body1: below,
         has_body2: 1,
         body2: n,
-        contact_events: mark(n % 3 != 0),
-        modify_contacts: mark(n % 4 == 0),
+        contact_events: u32::from(n % 3 != 0),
+        modify_contacts: u32::from(n % 4 == 0),
         speculative_distance: if n % 2 == 0 { 0.05 } else { 0.0 },
-    }
-}
-
-fn try_add(graph: &mut [u32], below: u32) {
-    match add(graph, request(below)) {
-        AddAnswer::Added(_) => {}
-        AddAnswer::Refused(_) => {}
     }
 }
 
@@ -40,16 +29,11 @@ fn near(bodies: &[u32], below: u32, step: u32) -> bool {
     (position(bodies, slot(below, 1), 1) - 0.5) - top < 0.09
 }
 
-fn add_if_near(graph: &mut [u32], bodies: &[u32], below: u32, step: u32) {
-    if near(bodies, below, step) {
-        try_add(graph, below);
-    }
-}
-
+// The answer is not looked at.
 pub fn add_near(graph: &mut [u32], bodies: &[u32], step: u32) {
-    let mut below = 0;
-    while below < 8 {
-        add_if_near(graph, bodies, below, step);
-        below += 1;
+    for below in 0..8 {
+        if near(bodies, below, step) {
+            let _ = add(graph, request(below));
+        }
     }
 }

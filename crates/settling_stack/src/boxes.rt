@@ -3,17 +3,17 @@
 ghost use Rattle.std.specs.Prelude.{◌<◌};
 
 use crate::places::{BOXES, body_at, collider_at, position};
-use case_draws::draws::{past, slot};
+use case_draws::draws::{past, pick};
 use case_draws::numbers::{
     BODY_CENTER_OF_MASS, BODY_FRICTION, BODY_MARGIN, BODY_POSITION, BODY_PRESENT, BODY_SIZE,
     BODY_SPECULATIVE_MAXIMUM, BODY_STATIC, BODY_SWEEP_RADIUS, COLLIDER_BODY, COLLIDER_BODY_NUMBER,
     COLLIDER_FILTERS, COLLIDER_FRICTION, COLLIDER_LOWER, COLLIDER_MARGIN, COLLIDER_MEMBERSHIPS,
     COLLIDER_POSITION, COLLIDER_PRESENT, COLLIDER_RESTITUTION, COLLIDER_SENSOR, COLLIDER_SIZE,
-    COLLIDER_UPPER, SETTINGS_CONTACT_TOLERANCE, SETTINGS_FRICTION, SETTINGS_LENGTH_UNIT,
-    SETTINGS_MATCH_CONTACTS, SETTINGS_MATCHING, SETTINGS_MATCHING_VALUE, SETTINGS_RECYCLE_COSINE,
+    COLLIDER_UPPER, SETTINGS_CONTACT_TOLERANCE, SETTINGS_FRICTION, SETTINGS_LENGTH,
+    SETTINGS_LENGTH_UNIT, SETTINGS_MATCH_CONTACTS, SETTINGS_MATCHING, SETTINGS_RECYCLE_COSINE,
     SETTINGS_RECYCLE_DISTANCE, SETTINGS_RESTITUTION, SETTINGS_STEP_TIME,
 };
-use case_draws::places::put;
+use case_draws::places::fill;
 use math::bits::bits_of;
 
 // The middles' heights at the start: -0.5, 0.53, 1.83, 2.89, 4.04, 5.04, 6.54, 7.63, 8.65.
@@ -29,38 +29,31 @@ const HEIGHTS: [u32; BOXES as usize] = [
     0x410a_6666,
 ];
 
-fn is(n: u32, m: u32) -> u32 {
-    if n == m { 1 } else { 0 }
-}
+// The rules of friction and restitution stand behind their coefficients.
+const FRICTION_RULE: u32 = SETTINGS_FRICTION + 1;
 
-// Step time 1/64, length unit 1, contact tolerance 0.005, recycle distance 0.05, squared cosine 0.99.
-fn fill_tolerances(settings: &mut [u32]) {
-    put(settings, SETTINGS_STEP_TIME, 0x3c80_0000);
-    put(settings, SETTINGS_LENGTH_UNIT, 0x3f80_0000);
-    put(settings, SETTINGS_CONTACT_TOLERANCE, 0x3ba3_d70a);
-    put(settings, SETTINGS_RECYCLE_DISTANCE, 0x3d4c_cccd);
-    put(settings, SETTINGS_RECYCLE_COSINE, 0x3f7d_70a4);
-}
+const RESTITUTION_RULE: u32 = SETTINGS_RESTITUTION + 1;
 
-// Matching, named by number: the Rust's.
-fn fill_matching(settings: &mut [u32]) {
-    put(settings, SETTINGS_MATCH_CONTACTS, 1);
-    put(settings, SETTINGS_MATCHING, 1);
-    put(settings, SETTINGS_MATCHING_VALUE, 0);
-}
-
-// Friction 0.5 by rule 1; restitution 0.1 by rule 2.
-fn fill_defaults(settings: &mut [u32]) {
-    put(settings, SETTINGS_FRICTION, 0x3f00_0000);
-    put(settings, slot(SETTINGS_FRICTION, 1), 1);
-    put(settings, SETTINGS_RESTITUTION, 0x3dcc_cccd);
-    put(settings, slot(SETTINGS_RESTITUTION, 1), 2);
+// Step time 1/64, length unit 1, contact tolerance 0.005, recycle distance 0.05, squared cosine 0.99; friction 0.5 by rule 1,
+// restitution 0.1 by rule 2. Matching is named by number: the Rust's.
+fn setting_word(i: u32) -> u32 {
+    match i {
+        SETTINGS_STEP_TIME => 0x3c80_0000,
+        SETTINGS_LENGTH_UNIT => 0x3f80_0000,
+        SETTINGS_CONTACT_TOLERANCE => 0x3ba3_d70a,
+        SETTINGS_RECYCLE_DISTANCE => 0x3d4c_cccd,
+        SETTINGS_RECYCLE_COSINE => 0x3f7d_70a4,
+        SETTINGS_MATCH_CONTACTS | SETTINGS_MATCHING => 1,
+        SETTINGS_FRICTION => 0x3f00_0000,
+        FRICTION_RULE => 1,
+        SETTINGS_RESTITUTION => 0x3dcc_cccd,
+        RESTITUTION_RULE => 2,
+        _ => 0,
+    }
 }
 
 pub fn fill_settings(settings: &mut [u32]) {
-    fill_tolerances(settings);
-    fill_matching(settings);
-    fill_defaults(settings);
+    fill(settings, 0, SETTINGS_LENGTH, setting_word);
 }
 
 // Mark, coefficient, rule: for one in m of the numbers.
@@ -68,7 +61,7 @@ fn coefficient_word(n: u32, m: u32, j: u32) -> u32
     requires { 0 < m }
 {
     match j {
-        0 => is(n % m, 1),
+        0 => u32::from(n % m == 1),
         1 => 0x3e99_999a,
         _ => 1 + n % 5,
     }
@@ -92,16 +85,12 @@ fn upper_word(bodies: &[u32], n: u32, axis: u32) -> u32 {
 
 // Box 2 is not there in one of a hundred steps.
 fn collider_presence(n: u32, step: u32) -> u32 {
-    if n == 2 {
-        past(1, is(step % 100, 95))
-    } else {
-        1
-    }
+    u32::from(n != 2 || step % 100 != 95)
 }
 
 // Box 6 is a sensor for fifty steps in 150.
 fn sensor(n: u32, step: u32) -> u32 {
-    if n == 6 { is(step / 50 % 3, 1) } else { 0 }
+    u32::from(n == 6 && step / 50 % 3 == 1)
 }
 
 fn collider_word(bodies: &[u32], n: u32, i: u32, step: u32) -> u32 {
@@ -127,7 +116,7 @@ fn collider_word(bodies: &[u32], n: u32, i: u32, step: u32) -> u32 {
             3,
             past(i, COLLIDER_RESTITUTION),
         ),
-        COLLIDER_MARGIN => is(n, 5),
+        COLLIDER_MARGIN => u32::from(n == 5),
         COLLIDER_MARGIN..COLLIDER_SENSOR => 0x3b44_9ba6,
         _ => sensor(n, step),
     }
@@ -135,11 +124,7 @@ fn collider_word(bodies: &[u32], n: u32, i: u32, step: u32) -> u32 {
 
 // Box 7 has no body for four steps in a hundred.
 pub fn body_presence(n: u32, step: u32) -> u32 {
-    if n == 7 {
-        past(1, is(step % 100 / 4, 21))
-    } else {
-        1
-    }
+    u32::from(n != 7 || step % 100 / 4 != 21)
 }
 
 // The middle of position, and the last of rotation.
@@ -151,51 +136,29 @@ const BODY_COSINE: u32 = BODY_CENTER_OF_MASS - 1;
 fn body_word(n: u32, i: u32) -> u32 {
     match i {
         BODY_PRESENT => 1,
-        BODY_STATIC => is(n, 0),
-        BODY_HEIGHT => HEIGHTS[(n % BOXES) as usize],
+        BODY_STATIC => u32::from(n == 0),
+        BODY_HEIGHT => pick(&HEIGHTS, n),
         BODY_COSINE => 0x3f80_0000,
         BODY_FRICTION..BODY_MARGIN => coefficient_word(n, 4, past(i, BODY_FRICTION)),
-        BODY_MARGIN => is(n, 3),
+        BODY_MARGIN => u32::from(n == 3),
         BODY_MARGIN..BODY_SPECULATIVE_MAXIMUM => 0x3b03_126f,
-        BODY_SPECULATIVE_MAXIMUM => slot(is(n, 6), is(n, 8)),
+        BODY_SPECULATIVE_MAXIMUM => u32::from(n == 6 || n == 8),
         BODY_SPECULATIVE_MAXIMUM..BODY_SWEEP_RADIUS => 0x3dcc_cccd,
         BODY_SWEEP_RADIUS => 0x3f66_6666,
         _ => 0,
     }
 }
 
-fn fill_collider(colliders: &mut [u32], bodies: &[u32], n: u32, step: u32) {
-    let mut i = 0;
-    while i < COLLIDER_SIZE {
-        put(
-            colliders,
-            collider_at(n, i),
-            collider_word(bodies, n, i, step),
-        );
-        i += 1;
-    }
-}
-
 pub fn fill_colliders(colliders: &mut [u32], bodies: &[u32], step: u32) {
-    let mut n = 0;
-    while n < BOXES {
-        fill_collider(colliders, bodies, n, step);
-        n += 1;
-    }
-}
-
-fn fill_body(bodies: &mut [u32], n: u32) {
-    let mut i = 0;
-    while i < BODY_SIZE {
-        put(bodies, body_at(n, i), body_word(n, i));
-        i += 1;
+    for n in 0..BOXES {
+        fill(colliders, collider_at(n, 0), COLLIDER_SIZE, |i| {
+            collider_word(bodies, n, i, step)
+        });
     }
 }
 
 pub fn fill_bodies(bodies: &mut [u32]) {
-    let mut n = 0;
-    while n < BOXES {
-        fill_body(bodies, n);
-        n += 1;
+    for n in 0..BOXES {
+        fill(bodies, body_at(n, 0), BODY_SIZE, |i| body_word(n, i));
     }
 }

@@ -1,9 +1,8 @@
 // The shares of three workers: the listed pairs in turn, worker by worker.
 use case_draws::draws::slot;
-use case_draws::numbers::{
-    GRAPH_LIST, GRAPH_LISTED, SHARES_COUNTS, SHARES_ENTRIES, SHARES_WORKERS,
-};
-use case_draws::places::{put, word};
+use case_draws::graph::{listed, listed_id};
+use case_draws::numbers::{SHARES_COUNTS, SHARES_ENTRIES, SHARES_WORKERS};
+use case_draws::places::{fill, put};
 
 // How many of the listed pairs worker w has.
 fn own(listed: u32, w: u32) -> u32 {
@@ -25,23 +24,15 @@ fn before(listed: u32, w: u32) -> u32 {
 
 // Pair p is the (p / 3)-th of worker p % 3.
 fn deal(shares: &mut [u32], graph: &[u32], listed: u32) {
-    let mut p = 0;
-    while p < listed {
+    for p in 0..listed {
         let place = slot(before(listed, p % 3), p / 3);
-        put(
-            shares,
-            slot(SHARES_ENTRIES, place),
-            word(graph, slot(GRAPH_LIST, p)),
-        );
-        p += 1;
+        put(shares, slot(SHARES_ENTRIES, place), listed_id(graph, p));
     }
 }
 
 pub fn fill_shares(shares: &mut [u32], graph: &[u32]) {
-    let listed = word(graph, GRAPH_LISTED);
+    let listed = listed(graph);
     put(shares, SHARES_WORKERS, 3);
-    put(shares, SHARES_COUNTS, own(listed, 0));
-    put(shares, slot(SHARES_COUNTS, 1), own(listed, 1));
-    put(shares, slot(SHARES_COUNTS, 2), own(listed, 2));
+    fill(shares, SHARES_COUNTS, 3, |w| own(listed, w));
     deal(shares, graph, listed);
 }

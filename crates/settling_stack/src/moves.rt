@@ -2,7 +2,7 @@
 // boxes are lifted.
 use crate::boxes::body_presence;
 use crate::places::{BOXES, body_at, position, put_float};
-use case_draws::draws::{past, slot};
+use case_draws::draws::{past, pick, slot};
 use case_draws::numbers::{BODY_LINEAR_VELOCITY, BODY_POSITION, BODY_PRESENT, BODY_ROTATION};
 use case_draws::places::put;
 
@@ -58,12 +58,12 @@ fn turn(bodies: &mut [u32], step: u32) {
     put(
         bodies,
         body_at(4, slot(BODY_ROTATION, 1)),
-        TURNS[(step / 32 % 3) as usize],
+        pick(&TURNS, step / 32),
     );
     put(
         bodies,
         body_at(4, slot(BODY_ROTATION, 3)),
-        COSINES[(step / 32 % 3) as usize],
+        pick(&COSINES, step / 32),
     );
 }
 
@@ -79,9 +79,7 @@ fn move_box(bodies: &mut [u32], n: u32, step: u32) {
 // From the lowest up.
 pub fn move_boxes(bodies: &mut [u32], step: u32) {
     turn(bodies, step);
-    let mut n = 1;
-    while n < BOXES {
+    for n in 1..BOXES {
         move_box(bodies, n, step);
-        n += 1;
     }
 }

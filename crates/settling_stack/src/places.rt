@@ -2,8 +2,7 @@
 use case_draws::draws::slot;
 use case_draws::numbers::{
     BODY_POSITION, BODY_SIZE, CHANGE_SIZE, COLLIDER_SIZE, CONTACT_SIZE, EVENT_SIZE,
-    GRAPH_CONTACT_SIZE, GRAPH_IDS, GRAPH_LIST, GRAPH_LISTS, MOST_WORKERS, PROPOSAL_SIZE,
-    SHARES_ENTRIES,
+    GRAPH_CONTACT_SIZE, GRAPH_IDS, GRAPH_LIST, MOST_WORKERS, PROPOSAL_SIZE, SHARES_ENTRIES,
 };
 use case_draws::places::{put, word};
 use layout::limits::{BODIES, COLLIDERS};
@@ -14,9 +13,7 @@ pub const CAPACITY: u32 = 64;
 // The floor and the boxes.
 pub const BOXES: u32 = 9;
 
-// Where the free ids and the records begin, and the lengths of the rows that the capacity asks for. Of bits there is a word for each worker.
-pub const FREE_PLACE: u32 = GRAPH_LIST + GRAPH_LISTS * CAPACITY;
-
+// Where the records begin, and the lengths of the rows that the capacity asks for. Of bits there is a word for each worker.
 const RECORDS_PLACE: u32 = GRAPH_LIST + GRAPH_IDS * CAPACITY;
 
 pub const GRAPH_LENGTH: usize = (GRAPH_LIST + GRAPH_CONTACT_SIZE * CAPACITY) as usize;
@@ -32,10 +29,6 @@ pub const EVENTS_LENGTH: usize = (EVENT_SIZE * CAPACITY) as usize;
 pub const CHANGES_LENGTH: usize = (CHANGE_SIZE * CAPACITY) as usize;
 
 pub const DISTANCES_LENGTH: usize = CAPACITY as usize;
-
-pub fn raise(row: &mut [u32], at: u32, by: u32) {
-    put(row, at, slot(word(row, at), by));
-}
 
 // Word i of collider n.
 pub fn collider_at(n: u32, i: u32) -> u32 {

@@ -6,179 +6,149 @@ use crate::impulses::write_impulses;
 use crate::moves::move_boxes;
 use crate::places::{
     BITS_LENGTH, CAPACITY, CHANGES_LENGTH, DISTANCES_LENGTH, EVENTS_LENGTH, GRAPH_LENGTH,
-    PROPOSALS_LENGTH, SHARES_LENGTH, raise,
+    PROPOSALS_LENGTH, SHARES_LENGTH,
 };
 use crate::proposed::fill_proposals;
-use crate::recorded::{graph_hash, touching_pairs};
-use case_draws::draws::low;
-use case_draws::hash::{START, add_words};
-use case_draws::line::{print_count, print_end, print_name, print_number, print_word};
-use case_draws::numbers::{CHANGE_SIZE, EVENT_SIZE, GRAPH_LISTED, SETTINGS_LENGTH};
-use case_draws::places::{put, word};
-use contact_graph::lay_out::{LayOutAnswer, lay_out};
+use crate::recorded::touching_pairs;
+use case_draws::graph::listed;
+use case_draws::hash::Hash;
+use case_draws::numbers::{CHANGE_SIZE, EVENT_SIZE};
+use contact_graph::lay_out::lay_out;
+use contact_types::refusal::Refusal;
 use layout::body::BODIES_LENGTH;
 use layout::collider::COLLIDERS_LENGTH;
+use layout::settings::SETTINGS_LENGTH;
 use std::io;
 use std::io::Write;
-use step::answer::{StepAnswer, StepReport};
+use step::answer::StepReport;
+use step::input::StepInput;
 use step::step::step;
 
 // Since the last line: events, changes, contacts recycled, the hashes of the events and of the changes.
-fn clear(tally: &mut [u32]) {
-    put(tally, 0, 0);
-    put(tally, 1, 0);
-    put(tally, 2, 0);
-    put(tally, 3, START);
-    put(tally, 4, START);
+#[derive(Clone, Copy)]
+struct Tally {
+    events: u32,
+    changes: u32,
+    recycled: u32,
+    event_hash: Hash,
+    change_hash: Hash,
 }
 
-fn count(tally: &mut [u32], report: StepReport, events: &[u32], changes: &[u32]) {
-    let event_words = low(report.events as u64 * EVENT_SIZE as u64) as u32;
-    let change_words = low(report.changes as u64 * CHANGE_SIZE as u64) as u32;
-    raise(tally, 0, report.events);
-    raise(tally, 1, report.changes);
-    raise(tally, 2, report.recycled);
-    put(tally, 3, add_words(events, 0, event_words, word(tally, 3)));
-    put(
-        tally,
-        4,
-        add_words(changes, 0, change_words, word(tally, 4)),
-    );
-}
+impl Tally {
+    const NONE: Self = Tally {
+        events: 0,
+        changes: 0,
+        recycled: 0,
+        event_hash: Hash::START,
+        change_hash: Hash::START,
+    };
 
-// The refusal's number, or 0.
-fn note(tally: &mut [u32], answer: StepAnswer, events: &[u32], changes: &[u32]) -> u32 {
-    match answer {
-        StepAnswer::Done(report) => {
-            count(tally, report, events, changes);
-            0
-        }
-        StepAnswer::Refused(refusal) => refusal.number(),
+    fn count(&mut self, report: StepReport, events: &[u32], changes: &[u32]) {
+        self.events = self.events.wrapping_add(report.events);
+        self.changes = self.changes.wrapping_add(report.changes);
+        self.recycled = self.recycled.wrapping_add(report.recycled);
+        let event_words = EVENT_SIZE.wrapping_mul(report.events);
+        let change_words = CHANGE_SIZE.wrapping_mul(report.changes);
+        self.event_hash.add_words(events, 0, event_words);
+        self.change_hash.add_words(changes, 0, change_words);
     }
 }
 
-fn run(
-    colliders: &[u32],
-    bodies: &[u32],
-    proposals: &[u32],
-    graph: &mut [u32],
-    tally: &mut [u32],
-) -> u32 {
-    let mut settings = [0u32; SETTINGS_LENGTH as usize];
-    let mut shares = [0u32; SHARES_LENGTH];
-    let mut bits = [0u64; BITS_LENGTH];
-    let mut events = [0u32; EVENTS_LENGTH];
-    let mut changes = [0u32; CHANGES_LENGTH];
-    let mut distances = [0u32; DISTANCES_LENGTH];
-    fill_settings(&mut settings);
-    fill_shares(&mut shares, graph);
-    let answer = step(
-        &settings,
-        colliders,
-        bodies,
-        proposals,
-        &shares,
-        graph,
-        &mut bits,
-        &mut events,
-        &mut changes,
-        &mut distances,
-    );
-    note(tally, answer, &events, &changes)
+// The rows that steps change, and those that they read of the boxes.
+#[derive(Clone, Copy)]
+struct Stack {
+    colliders: [u32; COLLIDERS_LENGTH],
+    bodies: [u32; BODIES_LENGTH],
+    proposals: [u32; PROPOSALS_LENGTH],
+    graph: [u32; GRAPH_LENGTH],
+    tally: Tally,
 }
 
-fn play_step(
-    colliders: &mut [u32],
-    bodies: &mut [u32],
-    proposals: &mut [u32],
-    graph: &mut [u32],
-    tally: &mut [u32],
-    step: u32,
-) -> u32 {
-    move_boxes(bodies, step);
-    fill_colliders(colliders, bodies, step);
-    add_near(graph, bodies, step);
-    fill_proposals(proposals, graph, bodies, step);
-    let refused = run(colliders, bodies, proposals, graph, tally);
-    write_impulses(graph, step);
-    refused
-}
-
-fn print_tally<W: Write>(out: &mut W, graph: &[u32], tally: &[u32], steps: u32) -> io::Result<()> {
-    print_number(out, steps)?;
-    print_count(out, word(graph, GRAPH_LISTED))?;
-    print_count(out, touching_pairs(graph))?;
-    print_count(out, word(tally, 0))?;
-    print_count(out, word(tally, 1))?;
-    print_count(out, word(tally, 2))?;
-    print_word(out, graph_hash(graph))?;
-    print_word(out, word(tally, 3))?;
-    print_word(out, word(tally, 4))?;
-    print_end(out)
-}
-
-// Every ten steps.
-fn print_line<W: Write>(
-    out: &mut W,
-    graph: &[u32],
-    tally: &mut [u32],
-    steps: u32,
-) -> io::Result<()> {
-    if steps % 10 == 0 {
-        print_tally(out, graph, tally, steps)?;
-        clear(tally);
+impl Stack {
+    fn start() -> Result<Self, Refusal> {
+        let mut stack = Stack {
+            colliders: [0; COLLIDERS_LENGTH],
+            bodies: [0; BODIES_LENGTH],
+            proposals: [0; PROPOSALS_LENGTH],
+            graph: [0; GRAPH_LENGTH],
+            tally: Tally::NONE,
+        };
+        lay_out(&mut stack.graph, CAPACITY)?;
+        fill_bodies(&mut stack.bodies);
+        Ok(stack)
     }
-    Ok(())
-}
 
-fn print_refused<W: Write>(out: &mut W, number: u32) -> io::Result<()> {
-    print_name(out, b"refused")?;
-    print_count(out, number)?;
-    print_end(out)
-}
-
-fn play<W: Write>(
-    out: &mut W,
-    colliders: &mut [u32],
-    bodies: &mut [u32],
-    proposals: &mut [u32],
-    graph: &mut [u32],
-    tally: &mut [u32],
-) -> io::Result<()> {
-    let mut step = 0;
-    while step < 300 {
-        let refused = play_step(colliders, bodies, proposals, graph, tally, step);
-        if refused != 0 {
-            return print_refused(out, refused);
-        }
-        step += 1;
-        print_line(out, graph, tally, step)?;
+    fn run(&mut self) -> Result<(), Refusal> {
+        let mut settings = [0; SETTINGS_LENGTH];
+        let mut shares = [0; SHARES_LENGTH];
+        let mut events = [0; EVENTS_LENGTH];
+        let mut changes = [0; CHANGES_LENGTH];
+        fill_settings(&mut settings);
+        fill_shares(&mut shares, &self.graph);
+        let input = StepInput {
+            settings: &settings,
+            colliders: &self.colliders,
+            bodies: &self.bodies,
+            proposals: &self.proposals,
+            shares: &shares,
+        };
+        let report = step(
+            &input,
+            &mut self.graph,
+            &mut [0; BITS_LENGTH],
+            &mut events,
+            &mut changes,
+            &mut [0; DISTANCES_LENGTH],
+        )?;
+        self.tally.count(report, &events, &changes);
+        Ok(())
     }
-    Ok(())
-}
 
-fn start<W: Write>(out: &mut W, graph: &mut [u32]) -> io::Result<()> {
-    match lay_out(graph, CAPACITY) {
-        LayOutAnswer::Done => Ok(()),
-        LayOutAnswer::Refused(refusal) => print_refused(out, refusal.number()),
+    fn play(&mut self, step: u32) -> Result<(), Refusal> {
+        move_boxes(&mut self.bodies, step);
+        fill_colliders(&mut self.colliders, &self.bodies, step);
+        add_near(&mut self.graph, &self.bodies, step);
+        fill_proposals(&mut self.proposals, &self.graph, &self.bodies, step);
+        self.run()?;
+        write_impulses(&mut self.graph, step);
+        Ok(())
+    }
+
+    fn print_line<W: Write>(&mut self, out: &mut W, steps: u32) -> io::Result<()> {
+        let listed = listed(&self.graph);
+        let touching = touching_pairs(&self.graph);
+        let Tally {
+            events,
+            changes,
+            recycled,
+            event_hash,
+            change_hash,
+        } = self.tally;
+        let hash = Hash::of_graph(&self.graph);
+        self.tally = Tally::NONE;
+        write!(out, "{steps}\t{listed}\t{touching}")?;
+        write!(out, "\t{events}\t{changes}\t{recycled}\t{:08X}", hash.0)?;
+        writeln!(out, "\t{:08X}\t{:08X}", event_hash.0, change_hash.0)
     }
 }
 
+fn print_refused<W: Write>(out: &mut W, refusal: Refusal) -> io::Result<()> {
+    writeln!(out, "refused\t{}", refusal.number())
+}
+
+// A line for every ten steps.
 pub fn print_stack<W: Write>(out: &mut W) -> io::Result<()> {
-    let mut colliders = [0u32; COLLIDERS_LENGTH];
-    let mut bodies = [0u32; BODIES_LENGTH];
-    let mut proposals = [0u32; PROPOSALS_LENGTH];
-    let mut graph = [0u32; GRAPH_LENGTH];
-    let mut tally = [0u32; 5];
-    start(out, &mut graph)?;
-    fill_bodies(&mut bodies);
-    clear(&mut tally);
-    play(
-        out,
-        &mut colliders,
-        &mut bodies,
-        &mut proposals,
-        &mut graph,
-        &mut tally,
-    )
+    let mut stack = match Stack::start() {
+        Ok(stack) => stack,
+        Err(refusal) => return print_refused(out, refusal),
+    };
+    for step in 0..300 {
+        if let Err(refusal) = stack.play(step) {
+            return print_refused(out, refusal);
+        }
+        if step % 10 == 9 {
+            stack.print_line(out, step + 1)?;
+        }
+    }
+    Ok(())
 }

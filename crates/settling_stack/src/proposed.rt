@@ -2,14 +2,14 @@
 // corners, else none.
 use crate::places::{BOXES, position, proposal_at, record_at};
 use case_draws::draws::{past, slot};
+use case_draws::graph::{listed, listed_id};
 use case_draws::numbers::{
-    CONTACT_COLLIDER1, CONTACT_COLLIDER2, GRAPH_LIST, GRAPH_LISTED, PROPOSAL_COUNT, PROPOSAL_HOOK,
-    PROPOSAL_MANIFOLDS, PROPOSED_MANIFOLD_COUNT, PROPOSED_MANIFOLD_NORMAL,
-    PROPOSED_MANIFOLD_POINTS, PROPOSED_POINT_ANCHOR1, PROPOSED_POINT_ANCHOR2,
-    PROPOSED_POINT_FEATURES, PROPOSED_POINT_PENETRATION, PROPOSED_POINT_POSITION,
-    PROPOSED_POINT_SIZE,
+    CONTACT_COLLIDER1, CONTACT_COLLIDER2, PROPOSAL_COUNT, PROPOSAL_HOOK, PROPOSAL_MANIFOLDS,
+    PROPOSED_MANIFOLD_COUNT, PROPOSED_MANIFOLD_NORMAL, PROPOSED_MANIFOLD_POINTS,
+    PROPOSED_POINT_ANCHOR1, PROPOSED_POINT_ANCHOR2, PROPOSED_POINT_FEATURES,
+    PROPOSED_POINT_PENETRATION, PROPOSED_POINT_POSITION, PROPOSED_POINT_SIZE,
 };
-use case_draws::places::{put, word};
+use case_draws::places::{fill, word};
 use math::bits::bits_of;
 
 // The overlap of the boxes along y.
@@ -68,11 +68,7 @@ fn point_word(bodies: &[u32], below: u32, above: u32, k: u32, j: u32) -> u32 {
 }
 
 fn manifold_count(bodies: &[u32], below: u32, above: u32) -> u32 {
-    if penetration(bodies, below, above) > -0.02 {
-        1
-    } else {
-        0
-    }
+    u32::from(penetration(bodies, below, above) > -0.02)
 }
 
 // In a proposal, the first manifold: the number of its points, its normal, the middle of this, its points, the end of the fourth.
@@ -90,7 +86,7 @@ const CORNERS_END: u32 = FIRST_POINTS + CORNERS * PROPOSED_POINT_SIZE;
 fn proposal_word(bodies: &[u32], below: u32, above: u32, i: u32, step: u32) -> u32 {
     let k = past(i, FIRST_POINTS);
     match i {
-        PROPOSAL_HOOK => if step % 50 < 3 { 0 } else { 1 },
+        PROPOSAL_HOOK => u32::from(step % 50 >= 3),
         PROPOSAL_COUNT => manifold_count(bodies, below, above),
         FIRST_COUNT => CORNERS,
         FIRST_NORMAL_Y => 0x3f80_0000,
@@ -109,28 +105,13 @@ fn proposal_word(bodies: &[u32], below: u32, above: u32, i: u32, step: u32) -> u
 fn propose(proposals: &mut [u32], graph: &[u32], bodies: &[u32], id: u32, step: u32) {
     let below = word(graph, record_at(id, CONTACT_COLLIDER1));
     let above = word(graph, record_at(id, CONTACT_COLLIDER2));
-    let mut i = 0;
-    while i < CORNERS_END {
-        put(
-            proposals,
-            proposal_at(id, i),
-            proposal_word(bodies, below, above, i, step),
-        );
-        i += 1;
-    }
+    fill(proposals, proposal_at(id, 0), CORNERS_END, |i| {
+        proposal_word(bodies, below, above, i, step)
+    });
 }
 
 pub fn fill_proposals(proposals: &mut [u32], graph: &[u32], bodies: &[u32], step: u32) {
-    let listed = word(graph, GRAPH_LISTED);
-    let mut p = 0;
-    while p < listed {
-        propose(
-            proposals,
-            graph,
-            bodies,
-            word(graph, slot(GRAPH_LIST, p)),
-            step,
-        );
-        p += 1;
+    for p in 0..listed(graph) {
+        propose(proposals, graph, bodies, listed_id(graph, p), step);
     }
 }

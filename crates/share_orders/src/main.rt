@@ -8,11 +8,11 @@ mod additions;
 mod differences;
 mod draws;
 mod impulses;
+mod left;
 mod lists;
 mod orders;
 mod places;
 mod proposed;
-mod run;
 mod world;
 
 use std::io;

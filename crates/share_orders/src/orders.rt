@@ -4,12 +4,26 @@ ghost use Rattle.std.specs.Prelude.{◌≤◌, ◌<◌};
 ghost use Rattle.rules.specs.Limits.{most_workers};
 
 use crate::draws::draw;
-use crate::places::{BITS_LENGTH, SHARES_LENGTH, raise};
-use case_draws::draws::slot;
-use case_draws::numbers::{
-    GRAPH_LIST, GRAPH_LISTED, MOST_WORKERS, SHARES_COUNTS, SHARES_ENTRIES, SHARES_WORKERS,
-};
-use case_draws::places::{put, word};
+use crate::places::{BITS_LENGTH, SHARES_LENGTH};
+use case_draws::draws::{past, slot};
+use case_draws::graph::{listed, listed_id};
+use case_draws::numbers::{MOST_WORKERS, SHARES_COUNTS, SHARES_ENTRIES, SHARES_WORKERS};
+use case_draws::places::{exchange, fill, put, raise};
+
+#[derive(Clone, Copy, Debug, PartialEq, Eq)]
+enum Order {
+    Listed,
+    Reversed,
+    Any,
+}
+
+fn order_of(share: u32) -> Order {
+    match share {
+        0 | 2 => Order::Listed,
+        1 | 3 => Order::Reversed,
+        _ => Order::Any,
+    }
+}
 
 fn workers(share: u32, key: u32) -> u32
     ensures { (0 < result) × (result ≤ most_workers) }
@@ -21,114 +35,59 @@ fn workers(share: u32, key: u32) -> u32
     }
 }
 
-// Any words, also where none are read.
-fn fill_any(shares: &mut [u32], key: u32) {
-    let mut i = 0;
-    while i < SHARES_LENGTH {
-        put(shares, i, draw(key, slot(10, i)));
-        i += 1;
+fn mix(shares: &mut [u32], count: u32, key: u32) {
+    for p in 1..count {
+        let other = draw(key, slot(40, p)) % (p + 1);
+        exchange(shares, slot(SHARES_ENTRIES, p), slot(SHARES_ENTRIES, other));
     }
 }
 
-fn in_order(shares: &mut [u32], graph: &[u32], listed: u32) {
-    let mut p = 0;
-    while p < listed {
-        put(
-            shares,
-            slot(SHARES_ENTRIES, p),
-            word(graph, slot(GRAPH_LIST, p)),
-        );
-        p += 1;
+fn list(shares: &mut [u32], graph: &[u32], order: Order, key: u32) {
+    let count = listed(graph);
+    let last = past(count, 1);
+    fill(shares, SHARES_ENTRIES, count, |p| {
+        let reversed = order == Order::Reversed;
+        listed_id(graph, if reversed { past(last, p) } else { p })
+    });
+    if order == Order::Any {
+        mix(shares, count, key);
     }
 }
 
-const BEFORE_LIST: u32 = GRAPH_LIST - 1;
-
-fn in_reverse(shares: &mut [u32], graph: &[u32], listed: u32) {
-    let mut p = 0;
-    while p < listed {
-        put(
-            shares,
-            slot(SHARES_ENTRIES, p),
-            word(graph, slot(BEFORE_LIST, listed - p)),
-        );
-        p += 1;
-    }
-}
-
-fn exchange(shares: &mut [u32], a: u32, b: u32) {
-    let held = word(shares, a);
-    put(shares, a, word(shares, b));
-    put(shares, b, held);
-}
-
-fn in_any_order(shares: &mut [u32], listed: u32, key: u32) {
-    let mut p = 1;
-    while p < listed {
-        exchange(
-            shares,
-            slot(SHARES_ENTRIES, p),
-            slot(SHARES_ENTRIES, draw(key, slot(40, p)) % (p + 1)),
-        );
-        p += 1;
-    }
-}
-
-fn list(shares: &mut [u32], graph: &[u32], share: u32) {
-    let listed = word(graph, GRAPH_LISTED);
-    match share {
-        1 | 3 => in_reverse(shares, graph, listed),
-        _ => in_order(shares, graph, listed),
-    }
-}
-
-fn mix(shares: &mut [u32], graph: &[u32], share: u32, key: u32) {
-    if 3 < share {
-        in_any_order(shares, word(graph, GRAPH_LISTED), key);
-    }
-}
-
-fn no_counts(shares: &mut [u32], workers: u32) {
-    let mut w = 0;
-    while w < workers {
-        put(shares, slot(SHARES_COUNTS, w), 0);
-        w += 1;
-    }
-}
-
-// Each contact to a worker: one after the other where there are the most.
-fn deal(shares: &mut [u32], listed: u32, workers: u32, share: u32, key: u32)
+// Each contact to a worker: one after the other where the order is not any.
+fn deal(shares: &mut [u32], count: u32, workers: u32, order: Order, key: u32)
     requires { 0 < workers }
 {
-    let mut p = 0;
-    while p < listed {
-        let w = if 3 < share { draw(key, slot(70, p)) } else { p };
+    for p in 0..count {
+        let w = if order == Order::Any {
+            draw(key, slot(70, p))
+        } else {
+            p
+        };
         raise(shares, slot(SHARES_COUNTS, w % workers), 1);
-        p += 1;
     }
 }
 
-fn fill_shares(shares: &mut [u32], graph: &[u32], share: u32, key: u32) {
+// Any words, also where none are read, but for the share.
+pub fn shares_of(graph: &[u32], share: u32, key: u32) -> [u32; SHARES_LENGTH] {
+    let mut shares = [0; SHARES_LENGTH];
+    let order = order_of(share);
     let count = workers(share, key);
-    fill_any(shares, key);
-    list(shares, graph, share);
-    mix(shares, graph, share, key);
-    put(shares, SHARES_WORKERS, count);
-    no_counts(shares, count);
-    deal(shares, word(graph, GRAPH_LISTED), count, share, key);
-}
-
-pub fn shares_of(graph: &[u32], share: u32, key: u32) -> [u32; SHARES_LENGTH as usize] {
-    let mut shares = [0u32; SHARES_LENGTH as usize];
-    fill_shares(&mut shares, graph, share, key);
+    fill(&mut shares, 0, SHARES_LENGTH as u32, |i| {
+        draw(key, slot(10, i))
+    });
+    list(&mut shares, graph, order, key);
+    put(&mut shares, SHARES_WORKERS, count);
+    fill(&mut shares, SHARES_COUNTS, count, |_| 0);
+    deal(&mut shares, listed(graph), count, order, key);
     shares
 }
 
 // Rubbish in the words that the workers set bits in.
-pub fn bits_of(key: u32) -> [u64; BITS_LENGTH] {
-    let a = draw(key, 0) as u64;
-    let b = draw(key, 1) as u64;
-    let c = draw(key, 2) as u64;
+pub fn rubbish(key: u32) -> [u64; BITS_LENGTH] {
+    let a = u64::from(draw(key, 0));
+    let b = u64::from(draw(key, 1));
+    let c = u64::from(draw(key, 2));
     [
         a * 4294967297,
         b * 4294967297,

@@ -1,29 +1,21 @@
 // The proposals of the listed contacts. At times one is overfull, so that the step is refused.
-use crate::draws::{all_but_one_in, draw, float};
-use crate::places::CAPACITY;
-use case_draws::draws::{past, slot};
+use crate::draws::{draw, float};
+use case_draws::draws::{all_but_one_in, past, pick, slot};
+use case_draws::graph::{listed, listed_id};
 use case_draws::numbers::{
-    GRAPH_LIST, GRAPH_LISTED, MANIFOLDS, PROPOSAL_COUNT, PROPOSAL_HOOK, PROPOSAL_MANIFOLDS,
-    PROPOSAL_SIZE, PROPOSED_MANIFOLD_COUNT, PROPOSED_MANIFOLD_NORMAL, PROPOSED_MANIFOLD_POINTS,
+    MANIFOLDS, PROPOSAL_COUNT, PROPOSAL_HOOK, PROPOSAL_MANIFOLDS, PROPOSAL_SIZE,
+    PROPOSED_MANIFOLD_COUNT, PROPOSED_MANIFOLD_NORMAL, PROPOSED_MANIFOLD_POINTS,
     PROPOSED_MANIFOLD_SIZE, PROPOSED_POINT_FEATURE2, PROPOSED_POINT_FEATURES,
     PROPOSED_POINT_PENETRATION, PROPOSED_POINT_SIZE, PROPOSED_POINTS,
 };
-use case_draws::places::{put, word};
+use case_draws::places::fill_nth;
 
-// Three floats each: along z, along y, between x and z, along -y.
-const NORMALS: [u32; 12] = [
-    0,
-    0,
-    0x3f80_0000,
-    0,
-    0x3f80_0000,
-    0,
-    0x3f19_999a,
-    0,
-    0x3f4c_cccd,
-    0,
-    0xbf80_0000,
-    0,
+// Along z, along y, between x and z, along -y.
+const NORMALS: [[u32; 3]; 4] = [
+    [0, 0, 0x3f80_0000],
+    [0, 0x3f80_0000, 0],
+    [0x3f19_999a, 0, 0x3f4c_cccd],
+    [0, 0xbf80_0000, 0],
 ];
 
 // 0.01, 0.1, 0, -0.004, -0.05, -0.5, 0.5, NaN.
@@ -41,7 +33,7 @@ const PENETRATIONS: [u32; 8] = [
 // A feature is at times unknown.
 fn point_word(key: u32, j: u32) -> u32 {
     match j {
-        PROPOSED_POINT_PENETRATION => PENETRATIONS[(draw(key, j) % 8) as usize],
+        PROPOSED_POINT_PENETRATION => pick(&PENETRATIONS, draw(key, j)),
         PROPOSED_POINT_FEATURES | PROPOSED_POINT_FEATURE2 => draw(key, j) / 8 % 6,
         _ => float(key, j),
     }
@@ -58,7 +50,7 @@ fn point_count(key: u32) -> u32 {
 }
 
 fn normal_word(key: u32, axis: u32) -> u32 {
-    NORMALS[(draw(key, PROPOSED_MANIFOLD_NORMAL) % 4 * 3 + axis % 3) as usize]
+    pick(&pick(&NORMALS, draw(key, PROPOSED_MANIFOLD_NORMAL)), axis)
 }
 
 fn manifold_word(key: u32, i: u32) -> u32 {
@@ -91,7 +83,7 @@ fn manifold_count(key: u32) -> u32 {
 fn proposal_word(key: u32, i: u32) -> u32 {
     let k = past(i, PROPOSAL_MANIFOLDS);
     match i {
-        PROPOSAL_HOOK => all_but_one_in(key, i, 4),
+        PROPOSAL_HOOK => all_but_one_in(draw(key, i), 4),
         PROPOSAL_COUNT => manifold_count(key),
         _ => manifold_word(
             draw(key, slot(100, k / PROPOSED_MANIFOLD_SIZE)),
@@ -100,31 +92,13 @@ fn proposal_word(key: u32, i: u32) -> u32 {
     }
 }
 
-fn fill_proposal(proposals: &mut [u32], id: u32, key: u32) {
-    let mut i = 0;
-    while i < PROPOSAL_SIZE {
-        put(
-            proposals,
-            id % CAPACITY * PROPOSAL_SIZE + i,
-            proposal_word(key, i),
-        );
-        i += 1;
-    }
-}
-
 // One in two keeps what was proposed to it before.
-fn propose(proposals: &mut [u32], id: u32, key: u32) {
-    let own = draw(key, slot(300, id));
-    if own % 2 == 0 {
-        fill_proposal(proposals, id, own);
-    }
-}
-
-pub fn fill_proposals(proposals: &mut [u32], row: &[u32], key: u32) {
-    let listed = word(row, GRAPH_LISTED);
-    let mut p = 0;
-    while p < listed {
-        propose(proposals, word(row, slot(GRAPH_LIST, p)), key);
-        p += 1;
+pub fn fill_proposals(proposals: &mut [u32], graph: &[u32], key: u32) {
+    for p in 0..listed(graph) {
+        let id = listed_id(graph, p);
+        let own = draw(key, slot(300, id));
+        if own % 2 == 0 {
+            fill_nth(proposals, id, PROPOSAL_SIZE, |i| proposal_word(own, i));
+        }
     }
 }

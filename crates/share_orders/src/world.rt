@@ -1,34 +1,34 @@
-// Settings, and six colliders with a body each: drawn at a list's start, and kept, moved or drawn anew before a step.
-ghost use Rattle.std.specs.Prelude.{◌<◌};
+// What a step is given: settings, and six colliders with a body each, drawn at a list's start, and kept, moved or drawn anew before a
+// step, and proposals.
 
-use crate::draws::{all_but_one_in, draw, float, one_in};
-use case_draws::draws::{past, slot};
+use crate::draws::{draw, float};
+use crate::left::Left;
+use crate::orders::{rubbish, shares_of};
+use crate::places::{GRAPH_LENGTH, PROPOSALS_LENGTH};
+use crate::proposed::fill_proposals;
+use case_draws::draws::{all_but_one_in, one_in, past, pick, slot};
 use case_draws::numbers::{
     BODY_CENTER_OF_MASS, BODY_FRICTION, BODY_MARGIN, BODY_POSITION, BODY_PRESENT, BODY_ROTATION,
     BODY_SIZE, BODY_SPECULATIVE_MAXIMUM, BODY_STATIC, COLLIDER_BODY, COLLIDER_BODY_NUMBER,
     COLLIDER_FILTERS, COLLIDER_FRICTION, COLLIDER_LOWER, COLLIDER_MARGIN, COLLIDER_MEMBERSHIPS,
     COLLIDER_POSITION, COLLIDER_PRESENT, COLLIDER_RESTITUTION, COLLIDER_SENSOR, COLLIDER_SIZE,
-    COLLIDER_UPPER, SETTINGS_FRICTION, SETTINGS_LENGTH, SETTINGS_MATCH_CONTACTS, SETTINGS_MATCHING,
+    COLLIDER_UPPER, SETTINGS_FRICTION, SETTINGS_MATCH_CONTACTS, SETTINGS_MATCHING,
     SETTINGS_MATCHING_VALUE, SETTINGS_RECYCLE_COSINE, SETTINGS_RESTITUTION, SETTINGS_STEP_TIME,
 };
-use case_draws::places::{put, word};
-use layout::limits::{BODIES, COLLIDERS};
+use case_draws::places::{fill, fill_nth, put, word};
+use layout::body::BODIES_LENGTH;
+use layout::collider::COLLIDERS_LENGTH;
+use layout::limits::BODIES;
+use layout::settings::SETTINGS_LENGTH;
 use math::bits::{bits_of, float_of};
+use step::input::StepInput;
+use step::step::step;
 
 // 1/64, 1, 0.005, 0.05; 0.1, 1, 0.05, 0.5; 0.07, 2, 0, 0: step time, length unit, contact tolerance, recycle distance.
-const SETTINGS: [u32; 12] = [
-    0x3c80_0000,
-    0x3f80_0000,
-    0x3ba3_d70a,
-    0x3d4c_cccd,
-    0x3dcc_cccd,
-    0x3f80_0000,
-    0x3d4c_cccd,
-    0x3f00_0000,
-    0x3d8f_5c29,
-    0x4000_0000,
-    0x0000_0000,
-    0x3f80_0000,
+const SETTINGS: [[u32; 4]; 3] = [
+    [0x3c80_0000, 0x3f80_0000, 0x3ba3_d70a, 0x3d4c_cccd],
+    [0x3dcc_cccd, 0x3f80_0000, 0x3d4c_cccd, 0x3f00_0000],
+    [0x3d8f_5c29, 0x4000_0000, 0x0000_0000, 0x3f80_0000],
 ];
 
 // 0.5, 0.25, 0.3, 1, 0, 0.1, 0.01, NaN.
@@ -43,31 +43,19 @@ const COEFFICIENTS: [u32; 8] = [
     0x7fc0_0000,
 ];
 
-// Four floats each: the identity, about x by 0.6 and 0.8, a quarter about z, not a unit.
-const ROTATIONS: [u32; 16] = [
-    0x0000_0000,
-    0x0000_0000,
-    0x0000_0000,
-    0x3f80_0000,
-    0x3f19_999a,
-    0x0000_0000,
-    0x0000_0000,
-    0x3f4c_cccd,
-    0x0000_0000,
-    0x0000_0000,
-    0x3f35_04f3,
-    0x3f35_04f3,
-    0x3dcc_cccd,
-    0x3e4c_cccd,
-    0xbe99_999a,
-    0x3f66_6666,
+// The identity, about x by 0.6 and 0.8, a quarter about z, not a unit.
+const ROTATIONS: [[u32; 4]; 4] = [
+    [0x0000_0000, 0x0000_0000, 0x0000_0000, 0x3f80_0000],
+    [0x3f19_999a, 0x0000_0000, 0x0000_0000, 0x3f4c_cccd],
+    [0x0000_0000, 0x0000_0000, 0x3f35_04f3, 0x3f35_04f3],
+    [0x3dcc_cccd, 0x3e4c_cccd, 0xbe99_999a, 0x3f66_6666],
 ];
 
 // 0.001, -0.002, 0.01, 0.5.
 const MOVES: [u32; 4] = [0x3a83_126f, 0xbb03_126f, 0x3c23_d70a, 0x3f00_0000];
 
 fn coefficient(key: u32, choice: u32) -> u32 {
-    COEFFICIENTS[(draw(key, choice) % 8) as usize]
+    pick(&COEFFICIENTS, draw(key, choice))
 }
 
 fn rule(key: u32, choice: u32) -> u32 {
@@ -75,7 +63,7 @@ fn rule(key: u32, choice: u32) -> u32 {
 }
 
 fn first_setting(key: u32, j: u32) -> u32 {
-    SETTINGS[(draw(key, SETTINGS_STEP_TIME) % 3 * 4 + j % 4) as usize]
+    pick(&pick(&SETTINGS, draw(key, SETTINGS_STEP_TIME)), j)
 }
 
 // Matching is named in two of three, else behind a mark of 0.
@@ -86,10 +74,10 @@ fn setting_word(key: u32, i: u32) -> u32 {
             past(i, SETTINGS_STEP_TIME),
         ),
         SETTINGS_RECYCLE_COSINE => 0x3f7d_70a4,
-        SETTINGS_MATCH_CONTACTS => all_but_one_in(key, i, 4),
+        SETTINGS_MATCH_CONTACTS => all_but_one_in(draw(key, i), 4),
         SETTINGS_FRICTION | SETTINGS_RESTITUTION => coefficient(key, i),
-        SETTINGS_MATCHING => all_but_one_in(key, i, 3),
-        SETTINGS_MATCHING_VALUE => one_in(key, i, 2),
+        SETTINGS_MATCHING => all_but_one_in(draw(key, i), 3),
+        SETTINGS_MATCHING_VALUE => one_in(draw(key, i), 2),
         _ => rule(key, i),
     }
 }
@@ -97,7 +85,7 @@ fn setting_word(key: u32, i: u32) -> u32 {
 // Mark, coefficient, rule: behind a mark of 0 any words.
 fn coefficient_word(key: u32, at: u32, j: u32) -> u32 {
     match j {
-        0 => one_in(key, at, 2),
+        0 => one_in(draw(key, at), 2),
         1 => coefficient(key, slot(at, 1)),
         _ => rule(key, slot(at, 2)),
     }
@@ -136,7 +124,7 @@ fn place_word(key: u32, i: u32) -> u32 {
             0x3f80_0000,
             0x4080_0000,
         ),
-        COLLIDER_MEMBERSHIPS => slot(one_in(key, i, 40), 1),
+        COLLIDER_MEMBERSHIPS => slot(one_in(draw(key, i), 40), 1),
         COLLIDER_FILTERS => filters(draw(key, i)),
         _ => float(key, i),
     }
@@ -155,16 +143,16 @@ fn surface_word(key: u32, i: u32) -> u32 {
             COLLIDER_RESTITUTION,
             past(i, COLLIDER_RESTITUTION),
         ),
-        COLLIDER_MARGIN => one_in(key, i, 3),
+        COLLIDER_MARGIN => one_in(draw(key, i), 3),
         COLLIDER_MARGIN..COLLIDER_SENSOR => coefficient(key, i),
-        _ => one_in(key, COLLIDER_SENSOR, 12),
+        _ => one_in(draw(key, COLLIDER_SENSOR), 12),
     }
 }
 
 fn collider_word(key: u32, n: u32, i: u32) -> u32 {
     match i {
-        COLLIDER_PRESENT => all_but_one_in(key, i, 32),
-        COLLIDER_BODY => all_but_one_in(key, i, 8),
+        COLLIDER_PRESENT => all_but_one_in(draw(key, i), 32),
+        COLLIDER_BODY => all_but_one_in(draw(key, i), 8),
         COLLIDER_BODY_NUMBER => n % BODIES,
         COLLIDER_LOWER..COLLIDER_FRICTION => place_word(key, i),
         _ => surface_word(key, i),
@@ -172,108 +160,117 @@ fn collider_word(key: u32, n: u32, i: u32) -> u32 {
 }
 
 fn rotation_word(key: u32, j: u32) -> u32 {
-    ROTATIONS[(draw(key, BODY_ROTATION) % 4 * 4 + j % 4) as usize]
+    pick(&pick(&ROTATIONS, draw(key, BODY_ROTATION)), j)
 }
 
 // Friction, margin, speculative maximum, sweep radius.
 fn body_surface_word(key: u32, i: u32) -> u32 {
     match i {
         BODY_FRICTION..BODY_MARGIN => coefficient_word(key, BODY_FRICTION, past(i, BODY_FRICTION)),
-        BODY_MARGIN => one_in(key, i, 3),
+        BODY_MARGIN => one_in(draw(key, i), 3),
         BODY_MARGIN..BODY_SPECULATIVE_MAXIMUM => coefficient(key, i),
-        BODY_SPECULATIVE_MAXIMUM => one_in(key, i, 2),
+        BODY_SPECULATIVE_MAXIMUM => one_in(draw(key, i), 2),
         _ => float(key, i),
     }
 }
 
 fn body_word(key: u32, i: u32) -> u32 {
     match i {
-        BODY_PRESENT => all_but_one_in(key, i, 16),
-        BODY_STATIC => one_in(key, i, 4),
+        BODY_PRESENT => all_but_one_in(draw(key, i), 16),
+        BODY_STATIC => one_in(draw(key, i), 4),
         BODY_ROTATION..BODY_CENTER_OF_MASS => rotation_word(key, past(i, BODY_ROTATION)),
         BODY_FRICTION..BODY_SIZE => body_surface_word(key, i),
         _ => float(key, i),
     }
 }
 
-pub fn fill_settings(settings: &mut [u32], key: u32) {
-    let mut i = 0;
-    while i < SETTINGS_LENGTH {
-        put(settings, i, setting_word(key, i));
-        i += 1;
-    }
-}
-
-fn fill_collider(colliders: &mut [u32], key: u32, n: u32) {
-    let mut i = 0;
-    while i < COLLIDER_SIZE {
-        put(
-            colliders,
-            n % COLLIDERS * COLLIDER_SIZE + i,
-            collider_word(draw(key, slot(10, n)), n, i),
-        );
-        i += 1;
-    }
-}
-
-fn fill_body(bodies: &mut [u32], key: u32, n: u32) {
-    let mut i = 0;
-    while i < BODY_SIZE {
-        put(
-            bodies,
-            n % BODIES * BODY_SIZE + i,
-            body_word(draw(key, slot(20, n)), i),
-        );
-        i += 1;
-    }
-}
-
 // One in two words of the positions is moved.
 fn move_body(bodies: &mut [u32], key: u32, n: u32) {
-    let mut i = BODY_POSITION;
-    while i < BODY_ROTATION {
+    for i in BODY_POSITION..BODY_ROTATION {
         let d = draw(draw(key, slot(20, n)), i);
-        let at = n % BODIES * BODY_SIZE + i;
-        let by = if d % 2 == 0 {
-            MOVES[(d / 2 % 4) as usize]
-        } else {
-            0
-        };
-        put(
-            bodies,
-            at,
-            bits_of(float_of(word(bodies, at)) + float_of(by)),
-        );
-        i += 1;
-    }
-}
-
-pub fn fill_world(colliders: &mut [u32], bodies: &mut [u32], key: u32) {
-    let mut n = 0;
-    while n < 6 {
-        fill_collider(colliders, key, n);
-        fill_body(bodies, key, n);
-        n += 1;
-    }
-}
-
-fn move_bodies(bodies: &mut [u32], key: u32) {
-    let mut n = 0;
-    while n < 6 {
-        move_body(bodies, key, n);
-        n += 1;
-    }
-}
-
-// Half of the steps find the world as it was; in a quarter the bodies are moved, in a quarter a collider and its body drawn anew.
-pub fn change_world(colliders: &mut [u32], bodies: &mut [u32], key: u32) {
-    let d = draw(key, 1);
-    match d % 4 {
-        0 => move_bodies(bodies, key),
-        1 => {
-            fill_collider(colliders, key, d / 4 % 6);
-            fill_body(bodies, key, d / 4 % 6);
+        if d % 2 == 0 {
+            let at = BODY_SIZE.wrapping_mul(n).wrapping_add(i);
+            let by = float_of(pick(&MOVES, d / 2));
+            put(bodies, at, bits_of(float_of(word(bodies, at)) + by));
         }
-        _ => {}
+    }
+}
+
+#[derive(Clone, Copy)]
+pub struct World {
+    settings: [u32; SETTINGS_LENGTH],
+    colliders: [u32; COLLIDERS_LENGTH],
+    bodies: [u32; BODIES_LENGTH],
+    proposals: [u32; PROPOSALS_LENGTH],
+}
+
+impl World {
+    pub fn new(key: u32) -> Self {
+        let mut world = World {
+            settings: [0; SETTINGS_LENGTH],
+            colliders: [0; COLLIDERS_LENGTH],
+            bodies: [0; BODIES_LENGTH],
+            proposals: [0; PROPOSALS_LENGTH],
+        };
+        fill(&mut world.settings, 0, SETTINGS_LENGTH as u32, |i| {
+            setting_word(key, i)
+        });
+        for n in 0..6 {
+            world.fill(key, n);
+        }
+        world
+    }
+
+    // A collider and its body.
+    fn fill(&mut self, key: u32, n: u32) {
+        let collider = draw(key, slot(10, n));
+        let body = draw(key, slot(20, n));
+        fill_nth(&mut self.colliders, n, COLLIDER_SIZE, |i| {
+            collider_word(collider, n, i)
+        });
+        fill_nth(&mut self.bodies, n, BODY_SIZE, |i| body_word(body, i));
+    }
+
+    // Half of the steps find the world as it was; in a quarter the bodies are moved, in a quarter a collider and its body drawn anew.
+    pub fn change(&mut self, graph: &[u32], key: u32) {
+        let d = draw(key, 1);
+        match d % 4 {
+            0 => {
+                for n in 0..6 {
+                    move_body(&mut self.bodies, key, n);
+                }
+            }
+            1 => self.fill(key, d / 4 % 6),
+            _ => {}
+        }
+        fill_proposals(&mut self.proposals, graph, key);
+    }
+
+    // A step by one of the nine shares, from the graph that the last step left.
+    pub fn run(&self, graph: &[u32; GRAPH_LENGTH], share: u32, key: u32) -> Left {
+        let mut left = Left::before(graph);
+        let shares = shares_of(graph, share, draw(key, slot(800, share)));
+        let mut bits = rubbish(draw(key, slot(900, share)));
+        let input = StepInput {
+            settings: &self.settings,
+            colliders: &self.colliders,
+            bodies: &self.bodies,
+            proposals: &self.proposals,
+            shares: &shares,
+        };
+        let answer = step(
+            &input,
+            &mut left.graph,
+            &mut bits,
+            &mut left.events,
+            &mut left.changes,
+            &mut left.distances,
+        );
+        let words = match answer {
+            Ok(report) => [0, report.events, report.changes, report.recycled],
+            Err(refusal) => [refusal.number(), 0, 0, 0],
+        };
+        left.answer = words;
+        left
     }
 }

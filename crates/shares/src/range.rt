@@ -9,13 +9,13 @@ ghost use Rattle.rules.specs.Limits.{most_workers};
 ghost use Rattle.shares.specs.Shares.{start_of, total_of, entries_stand, entries_once, shares_fit};
 
 use contact_graph::call::has_contact;
-use contact_range::places::{id_at, number_at};
+use contact_range::places::id_at;
 use data_structures::bit_vec::{get, set};
 use layout::bits::MOST_BLOCKS;
 use layout::graph::{GRAPH_CAPACITY, GRAPH_LISTED};
 use layout::limits::MOST_WORKERS;
 use layout::shares::{SHARES_COUNTS, SHARES_ENTRIES, SHARES_WORKERS};
-use words::row::load_word;
+use words::load::load;
 
 // The contacts of the workers before it.
 pub fn start_of(shares: &[u32], worker: usize) -> usize
@@ -23,10 +23,8 @@ pub fn start_of(shares: &[u32], worker: usize) -> usize
     ensures { result ≡ start_of shares.now worker }
 {
     let mut total = 0;
-    let mut w = 0;
-    while w < worker {
-        total += load_word(shares, SHARES_COUNTS + w) as usize;
-        w += 1;
+    for w in 0..worker {
+        total += load::<u32>(shares, SHARES_COUNTS + w) as usize;
     }
     total
 }
@@ -36,8 +34,7 @@ fn entries_fit(shares: &[u32], graph: &[u32], total: usize, marks: &mut [u64]) -
     requires { Checked graph.now × (total ≡ total_of shares.now) × (shares_entries + total ≤ length shares.now) × (length marks.old ≡ most_blocks) × Unmarked marks.old }
     ensures { result ≡ (entries_stand shares.now graph.now && entries_once shares.now) }
 {
-    let mut k = 0;
-    while k < total {
+    for k in 0..total {
         let id = id_at(shares, SHARES_ENTRIES + k);
         if !has_contact(graph, id) {
             return false;
@@ -46,7 +43,6 @@ fn entries_fit(shares: &[u32], graph: &[u32], total: usize, marks: &mut [u64]) -
             return false;
         }
         set(marks, id.0 as usize);
-        k += 1;
     }
     true
 }
@@ -55,7 +51,7 @@ pub fn shares_fit(shares: &[u32], graph: &[u32]) -> bool
     requires { Checked graph.now × (length shares.now ≡ shares_length (capacity_of graph.now)) }
     ensures { result ≡ shares_fit shares.now graph.now }
 {
-    let workers = number_at(shares, SHARES_WORKERS);
+    let workers = load::<usize>(shares, SHARES_WORKERS);
     if workers == 0 {
         return false;
     }
@@ -63,12 +59,12 @@ pub fn shares_fit(shares: &[u32], graph: &[u32]) -> bool
         return false;
     }
     let total = start_of(shares, workers);
-    if number_at(graph, GRAPH_CAPACITY) < total {
+    if load::<usize>(graph, GRAPH_CAPACITY) < total {
         return false;
     }
     let mut marks = [0u64; MOST_BLOCKS];
     if !entries_fit(shares, graph, total, &mut marks) {
         return false;
     }
-    total == number_at(graph, GRAPH_LISTED)
+    total == load::<usize>(graph, GRAPH_LISTED)
 }

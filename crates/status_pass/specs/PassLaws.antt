@@ -1,9 +1,9 @@
 -- A visit and the whole status pass leave a graph of the right length and in range, and do to the words what the rules do to the plain graph. Assumes nothing.
-use Rattle.std.specs.Prelude.{ℕ, zero, suc, ◌+◌, ◌-◌, ◌*◌, ◌≤◌, ◌<◌, ◌≡◌, ◌⊎◌, ◌≢◌, Bool, true, false, cond, ◌&&◌, ℤ, length, get_or, take, set}
+use Rattle.std.proofs.lemmas.Option.{none-some, same_Some}
+use Rattle.std.specs.Prelude.{ℕ, zero, suc, ◌+◌, ◌-◌, ◌*◌, ◌≤◌, ◌<◌, ◌≡◌, ◌⊎◌, ◌≢◌, Bool, true, false, cond, ◌&&◌, ℤ, length, get_or, take, set, Option, None, Some}
 use Rattle.std.proofs.Common.{suc-le-suc, add-zero, zero-add, zero-lt-suc, not-suc-le-zero, le_of_suc-le-suc, add-one, arith, subst, ◌∙◌, inl, inr, length-append, length-set, get_or-set_same, get_or-set_other, ext_get_or}
 use Rattle.std.proofs.Math.Path.{refl, sym, ap}
 use mathlib.Core.List.{List, [], ◌∷◌, ◌++◌, map, append-nil}
-use Rattle.std.proofs.Math.Option.{Option, none, some, none-ne-some, some-injective}
 use Rattle.std.proofs.Math.Dec.{eqb}
 use Rattle.rows.specs.Rows.{part}
 use Rattle.rows.specs.Slots.{upto}
@@ -248,7 +248,7 @@ set_upto f h n p q l e rest =
           | inr d ↦ rest k s d ∙ sym (get_d_map_upto f n k q s) ∙ sym (get_or-set_other (map f (upto n)) p k q q d)
         ]
 
-found_at : (s : Pass) (i : ℕ) (ps : List Pair) (d : Pair) → i < length ps → visit_found s (some i) ps ≡ visit_at s i (get_or ps i d)
+found_at : (s : Pass) (i : ℕ) (ps : List Pair) (d : Pair) → i < length ps → visit_found s (Some i) ps ≡ visit_at s i (get_or ps i d)
 unfolding visit_found
 found_at s i [] d h = absurd (not-suc-le-zero h)
 found_at s i (p ∷ ps) d h = ap (visit_at s i) (get_d_any (p ∷ ps) i p d h)
@@ -258,8 +258,8 @@ abbrev pub with_pair : Graph → ℕ → Pair → Graph
 with_pair g i p = record { capacity = g.capacity; given = g.given; free = g.free; pairs = set g.pairs i p }
 
 -- a pair that stays was not disjoint
-staying : (v : Verdict) (p q : Pair) → next v p ≡ some q → v ≡ vanishes → ⊥
-staying v p q e z = none-ne-some q (ap (λ (u : Verdict). next u p) (sym z) ∙ e)
+staying : (v : Verdict) (p q : Pair) → next v p ≡ Some q → v ≡ vanishes → ⊥
+staying v p q e z = none-some q (ap (λ (u : Verdict). next u p) (sym z) ∙ e)
 
 module _ {g : List ℕ} (id : ℕ) (c : Checked g) (st : range.stands g id ≡ true) where
   own_listed : listed_pair g (place_of g id) ≡ visited_pair g id
@@ -268,12 +268,12 @@ module _ {g : List ℕ} (id : ℕ) (c : Checked g) (st : range.stands g id ≡ t
   own_counted : Counted g (contact_at g id + contact_manifolds)
   own_counted = let t = standing_fits c.range id st in record { manifolds = t.manifolds; points = t.points }
 
-  module _ (v : Verdict) {q : Pair} (e : next v (visited_pair g id) ≡ some q) where
+  module _ (v : Verdict) {q : Pair} (e : next v (visited_pair g id) ≡ Some q) where
     own_pair : visited_pair (settled_graph v id g) id ≡ q
     own_pair =
         let t = settled_fitting v (record_of g id) (record_size v id c st) (record_fitting v id c st) in
         pair_same id (record { manifolds = t.manifolds; points = t.points }) (own_same v id c st)
-        ∙ some-injective (pair_at (settled_words v (record_of g id)) 0 id) q
+        ∙ same_Some (pair_at (settled_words v (record_of g id)) 0 id) q
         (sym (settled_pair v (record_of g id) id (record_size v id c st) (staying v (visited_pair g id) q e))
         ∙ ap (next v) (pair_same id own_counted (part_same g (contact_at g id) contact_size)) ∙ e)
 
@@ -318,7 +318,7 @@ module _ (s : Passing) (id : ℕ) (c : Checked s.graph) (st : range.stands s.gra
   abbrev at : ℕ
   at = place_of s.graph id
 
-  as_written : (v : Verdict) {q : Pair} → next v own ≡ some q
+  as_written : (v : Verdict) {q : Pair} → next v own ≡ Some q
       → written (plain_pass s) at q (events_for v own) (changes_for v own)
       ≡ record { graph = graph_of (settled_graph v id s.graph); events = s.events ++ events_for v own; changes = s.changes ++ changes_for v own }
   as_written v e = λ i. record { graph = sym (settled_graph_lem id c st v e) i; events = s.events ++ events_for v own; changes = s.changes ++ changes_for v own }
@@ -435,17 +435,17 @@ stop_few false n = omega arith
 stop_few true n = go n.body1 n.body2
   where
     go : (a b : Option ℕ) → length (stop_if true (bodied n a b)) ≤ 1
-    go none b = omega arith
-    go (some a) none = omega arith
-    go (some a) (some b) = omega arith
+    go None b = omega arith
+    go (Some a) None = omega arith
+    go (Some a) (Some b) = omega arith
 
 count_few : (n : Names) (d : ℤ) → length (count_of n d) ≤ 1
 count_few n d = go n.body1 n.body2
   where
     go : (a b : Option ℕ) → length (count_of (bodied n a b) d) ≤ 1
-    go none b = omega arith
-    go (some a) none = omega arith
-    go (some a) (some b) = omega arith
+    go None b = omega arith
+    go (Some a) None = omega arith
+    go (Some a) (Some b) = omega arith
 
 start_few : (b : Bool) (c : Change) → length (cond b (c ∷ []) []) ≤ 1
 start_few true c = omega arith

@@ -1,9 +1,8 @@
 -- What the status pass writes into a record of the right length: the rules' next pair, and a record in range. Assumes nothing.
-use Rattle.std.specs.Prelude.{ℕ, ◌+◌, ◌*◌, ◌≤◌, ◌<◌, ◌≡◌, refl, ◌≢◌, Bool, true, cond, not, ◌&&◌, T, ltb, length}
+use Rattle.std.specs.Prelude.{ℕ, ◌+◌, ◌*◌, ◌≤◌, ◌<◌, ◌≡◌, refl, ◌≢◌, Bool, true, cond, not, ◌&&◌, T, ltb, length, Some}
 use Rattle.std.proofs.Common.{add-zero, add_assoc, arith, sym, subst, ◌∙◌, inl, inr, lit≤}
 use Rattle.std.proofs.Math.Path.{ap}
 use mathlib.Core.List.{List, [], ◌∷◌, map}
-use Rattle.std.proofs.Math.Option.{some}
 use Rattle.std.proofs.Math.Dec.{eqb}
 use Rattle.std.specs.Float.Ieee.{binary32, of_bits}
 use Rattle.rows.specs.Rows.{put}
@@ -144,7 +143,7 @@ module _ (w h : List ℕ) (same : (o : ℕ) → Untouched o → word_at h o ≡ 
       }
 
 -- what becomes of a pair that stays
-pub settled_pair : (v : Verdict) (w : List ℕ) (id : ℕ) → length w ≡ contact_size → (v ≡ vanishes → ⊥) → next v (pair_at w 0 id) ≡ some (pair_at (settled_words v w) 0 id)
+pub settled_pair : (v : Verdict) (w : List ℕ) (id : ℕ) → length w ≡ contact_size → (v ≡ vanishes → ⊥) → next v (pair_at w 0 id) ≡ Some (pair_at (settled_words v w) 0 id)
 unfolding settled_words pair_at flags_at edge_at
 settled_pair vanishes w id l n = absurd (n refl)
 settled_pair starts w id l n =
@@ -153,7 +152,7 @@ settled_pair starts w id l n =
     let la = length_one w 7 1 in
     let lb = length_one a 11 0 in
     let past : (o : ℕ) → o ≢ 7 → o ≢ 11 → o ≢ 14 → word_at (started_words w) o ≡ word_at w o = λ o p q r. put_other b 14 0 o r ∙ put_other a 11 0 o q ∙ put_other w 7 1 o p in
-    ap some
+    ap Some
     (sym (pair_marked w (started_words w) (settled_word starts w) id
     (put_other b 14 0 7 (omega arith) ∙ put_other a 11 0 7 (omega arith) ∙ put_own w 7 1 (omega arith))
     (put_other b 14 0 11 (omega arith) ∙ put_own a 11 0 (omega arith))
@@ -164,7 +163,7 @@ settled_pair stops w id l n =
     let a = put w 7 (0 ∷ []) in
     let la = length_one w 7 0 in
     let past : (o : ℕ) → o ≢ 7 → o ≢ 12 → word_at (stopped_words w) o ≡ word_at w o = λ o p q. put_other a 12 0 o q ∙ put_other w 7 0 o p in
-    ap some
+    ap Some
     (sym (pair_marked w (stopped_words w) (settled_word stops w) id
     (put_other a 12 0 7 (omega arith) ∙ put_own w 7 0 (omega arith))
     (past 11 (omega arith) (omega arith))
@@ -173,12 +172,12 @@ settled_pair stops w id l n =
     (past 18 (omega arith) (omega arith))))
 settled_pair generates w id l n =
     let past : (o : ℕ) → o ≢ 14 → word_at (put w 14 (0 ∷ [])) o ≡ word_at w o = put_other w 14 0 in
-    ap some
+    ap Some
     (sym (pair_marked w (put w 14 (0 ∷ [])) (settled_word generates w) id
     (past 7 (omega arith)) (past 11 (omega arith)) (past 12 (omega arith)) (put_own w 14 0 (omega arith)) (past 18 (omega arith))))
 settled_pair recounts w id l n =
     let past : (o : ℕ) → o ≢ 18 → word_at (put w 18 (0 ∷ [])) o ≡ word_at w o = put_other w 18 0 in
-    ap some
+    ap Some
     (sym (pair_marked w (put w 18 (0 ∷ [])) (settled_word recounts w) id
     (past 7 (omega arith)) (past 11 (omega arith)) (past 12 (omega arith)) (past 14 (omega arith)) (put_own w 18 0 (omega arith))))
 settled_pair persists w id l n = refl

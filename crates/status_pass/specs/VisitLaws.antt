@@ -1,9 +1,8 @@
 -- The pass as the code makes it: a visit over the contact's own record, and the lists that grow. Assumes nothing.
-use Rattle.std.specs.Prelude.{ℕ, ◌+◌, ◌*◌, ◌≤◌, ◌<◌, ◌≡◌, true, get_or, drop}
-use Rattle.std.proofs.Common.{zero-add, zero-mul, add_assoc, arith, subst₂, ◌∙◌, length-append, length-take-le, get_or-take, take_all}
+use Rattle.std.specs.Prelude.{ℕ, ◌+◌, ◌*◌, ◌≤◌, ◌<◌, ◌≡◌, true, get_or, drop, Option, None, Some}
+use Rattle.std.proofs.Common.{zero-add, zero-mul, add_assoc, arith, subst₂, ◌∙◌, length-append, length-take-le}
 use Rattle.std.proofs.Math.Path.{refl, sym, ap, subst}
 use mathlib.Core.List.{List, ◌++◌}
-use Rattle.std.proofs.Math.Option.{Option, none, some}
 use Rattle.std.proofs.Math.ListN.{length, take}
 use Rattle.rows.specs.Rows.{part, put, each}
 use Rattle.rows.specs.Laws.{length_put, length_part, put_next, put_lent}
@@ -83,8 +82,8 @@ appended_next {A} words size sized {row} {row'} {row''} {xs} {ys} {n} {r} a b =
 
 optional_size : (o : Option ℕ) → length (optional_words o) ≡ 2
 unfolding optional_words
-optional_size none = refl
-optional_size (some n) = refl
+optional_size None = refl
+optional_size (Some n) = refl
 
 named_size : (n : Names) → length (optional_words n.body1 ++ optional_words n.body2) ≡ 4
 named_size n = length-append (optional_words n.body1) (optional_words n.body2) ∙ (λ i. optional_size n.body1 i + optional_size n.body2 i)
@@ -142,24 +141,3 @@ module _ (g es cs : List ℕ) where
         → VisitDone h es' cs' (get_or ids k 0) counts.events counts.changes h' es'' cs'' r → Left (after (k + 1)) es cs h' es'' cs'' r
     visit_left k {h} {es'} {cs'} {h'} {es''} {cs''} {counts} {r} l a d =
         subst (λ (s : Passing). Left s es cs h' es'' cs'' r) (sym (pass_next (begun g) ids k l)) (left_next (after k) (get_or ids k 0) a d)
-
-  -- the same over the first n of a row
-  module _ (row : List ℕ) (n : ℕ) (fits : n ≤ length row) (ready : RowsReady g es cs (take n row)) where
-    abbrev pub turns : ℕ → Passing
-    turns k = after (take n row) ready k
-
-    pub turn_ready : (k id : ℕ) {h es' cs' : List ℕ} {counts : WrittenCounts} → k < n → id ≡ get_or row k 0 → Left (turns k) es cs h es' cs' counts
-        → VisitReady h es' cs' id counts.events counts.changes
-    turn_ready k id {h} {es'} {cs'} {counts} l e a =
-        subst (λ (i : ℕ). VisitReady h es' cs' i counts.events counts.changes) (get_or-take n row k 0 l ∙ sym e)
-        (visit_ready (take n row) ready k (let z = length-take-le n row fits in omega arith) a)
-
-    pub turn_left : (k id : ℕ) {h es' cs' h' es'' cs'' : List ℕ} {counts r : WrittenCounts} → k < n → id ≡ get_or row k 0 → Left (turns k) es cs h es' cs' counts
-        → VisitDone h es' cs' id counts.events counts.changes h' es'' cs'' r → Left (turns (k + 1)) es cs h' es'' cs'' r
-    turn_left k id {h} {es'} {cs'} {h'} {es''} {cs''} {counts} {r} l e a d =
-        visit_left (take n row) ready k (let z = length-take-le n row fits in omega arith) a
-        (subst (λ (i : ℕ). VisitDone h es' cs' i counts.events counts.changes h' es'' cs'' r) (e ∙ sym (get_or-take n row k 0 l)) d)
-
-    pub turns_done : (k : ℕ) {h es' cs' : List ℕ} {counts : WrittenCounts} → k ≡ n → Left (turns k) es cs h es' cs' counts → Left (pass_words (begun g) (take n row)) es cs h es' cs' counts
-    turns_done k {h} {es'} {cs'} {counts} e a =
-        subst (λ (ids : List ℕ). Left (pass_words (begun g) ids) es cs h es' cs' counts) (take_all k (take n row) (let z = length-take-le n row fits in omega arith)) a

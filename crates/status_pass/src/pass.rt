@@ -1,5 +1,5 @@
 // The status pass: the contacts of a list, one after another.
-ghost use Rattle.std.specs.Prelude.{◌≡◌, ◌≤◌, length, take};
+ghost use Rattle.std.specs.Prelude.{◌≤◌, length, take};
 ghost use Rattle.status_pass.specs.Pass.{RowsReady, PassDone};
 
 use crate::visit::{WrittenCounts, visit};
@@ -20,10 +20,8 @@ pub fn pass(
         events: 0,
         changes: 0,
     };
-    let mut k = 0;
-    while k < n {
-        counts = visit(graph, events, changes, ContactId(ids[k]), counts);
-        k += 1;
+    for &id in &ids[..n] {
+        counts = visit(graph, events, changes, ContactId(id), counts);
     }
     counts
 }

@@ -9,24 +9,24 @@ use layout::contact::{
     CONTACT_COUNT_CHANGE, EDGE_TOUCHING, PAIR_STARTED_GENERATING_CONSTRAINTS,
     PAIR_STARTED_TOUCHING, PAIR_STOPPED_TOUCHING,
 };
-use words::row::store_word;
+use words::store::store;
 
 // The edge touches, and both started marks are cleared.
 fn settle_started(words: &mut [u32])
     requires { length words.old ≡ contact_size }
     ensures { words.new ≡ started_words words.old }
 {
-    store_word(words, EDGE_TOUCHING, 1);
-    store_word(words, PAIR_STARTED_TOUCHING, 0);
-    store_word(words, PAIR_STARTED_GENERATING_CONSTRAINTS, 0);
+    store(words, EDGE_TOUCHING, 1);
+    store(words, PAIR_STARTED_TOUCHING, 0);
+    store(words, PAIR_STARTED_GENERATING_CONSTRAINTS, 0);
 }
 
 fn settle_stopped(words: &mut [u32])
     requires { length words.old ≡ contact_size }
     ensures { words.new ≡ stopped_words words.old }
 {
-    store_word(words, EDGE_TOUCHING, 0);
-    store_word(words, PAIR_STOPPED_TOUCHING, 0);
+    store(words, EDGE_TOUCHING, 0);
+    store(words, PAIR_STOPPED_TOUCHING, 0);
 }
 
 pub fn settle(words: &mut [u32], v: Verdict)
@@ -37,8 +37,8 @@ pub fn settle(words: &mut [u32], v: Verdict)
         Verdict::Vanishes => {}
         Verdict::Starts => settle_started(words),
         Verdict::Stops => settle_stopped(words),
-        Verdict::Generates => store_word(words, PAIR_STARTED_GENERATING_CONSTRAINTS, 0),
-        Verdict::Recounts => store_word(words, CONTACT_COUNT_CHANGE, 0),
+        Verdict::Generates => store(words, PAIR_STARTED_GENERATING_CONSTRAINTS, 0),
+        Verdict::Recounts => store(words, CONTACT_COUNT_CHANGE, 0),
         Verdict::Persists => {}
     }
 }

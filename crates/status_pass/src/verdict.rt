@@ -1,13 +1,11 @@
 // Which case of the status pass a contact meets: the first that holds.
-ghost use Rattle.std.specs.Prelude.{◌≡◌, length};
-ghost use Rattle.layout.specs.Contact.{contact_size};
 ghost use Rattle.status_pass.specs.Verdicts.{VerdictIs};
 
 use contact_records::state::load_flags;
-use layout::contact::{CONTACT_COUNT_CHANGE, CONTACT_FLAGS};
-use words::row::load_word;
+use layout::contact::{CONTACT_COUNT_CHANGE, CONTACT_FLAGS, CONTACT_SIZE};
+use words::load::load;
 
-#[derive(Clone, Copy)]
+#[derive(Clone, Copy, PartialEq, Eq, Debug)]
 pub enum Verdict {
     // Disjoint: the contact is removed.
     Vanishes,
@@ -20,12 +18,11 @@ pub enum Verdict {
     Persists,
 }
 
-pub fn verdict_of(words: &[u32]) -> Verdict
-    requires { length words.now ≡ contact_size }
+pub fn verdict_of(words: &[u32; CONTACT_SIZE]) -> Verdict
     ensures { VerdictIs words.now result }
 {
     let f = load_flags(words, CONTACT_FLAGS);
-    let change = load_word(words, CONTACT_COUNT_CHANGE);
+    let change = load::<u32>(words, CONTACT_COUNT_CHANGE);
     if f.disjoint_aabb {
         return Verdict::Vanishes;
     }

@@ -28,8 +28,7 @@ fn settle_own(graph: &mut [u32], id: ContactId, v: Verdict)
 {
     let at = contact_at(graph, id);
     let end = at + CONTACT_SIZE;
-    let own = &mut graph[at..end];
-    settle(own, v);
+    settle(&mut graph[at..end], v);
 }
 
 // A disjoint contact is removed, any other's marks are written.
@@ -39,11 +38,7 @@ fn leave(graph: &mut [u32], id: ContactId, v: Verdict)
 {
     match v {
         Verdict::Vanishes => remove_standing(graph, id),
-        Verdict::Starts => settle_own(graph, id, v),
-        Verdict::Stops => settle_own(graph, id, v),
-        Verdict::Generates => settle_own(graph, id, v),
-        Verdict::Recounts => settle_own(graph, id, v),
-        Verdict::Persists => settle_own(graph, id, v),
+        _ => settle_own(graph, id, v),
     }
 }
 
@@ -59,7 +54,7 @@ pub fn visit(
 {
     let at = contact_at(graph, id);
     let end = at + CONTACT_SIZE;
-    let own = &graph[at..end];
+    let own = graph[at..end].as_array().unwrap();
     let v = verdict_of(own);
     let e = record_event(events, counts.events, own, id, v);
     let c = record_change(changes, counts.changes, own, id, v);

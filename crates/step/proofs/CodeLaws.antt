@@ -19,7 +19,6 @@ use Rattle.contact_update.specs.UpdateFitLaws.{FitSettings, settings_fit_read}
 use Rattle.shares.specs.Shares.{workers_of, total_of, entry_at, counts_fit, entries_stand, active_once, shares_fit}
 use Rattle.status_pass.specs.Pass.{begun, pass_words, RowsReady, PassDone, Left}
 use Rattle.status_pass.specs.PassLaws.{pass_events, pass_changes}
-use Rattle.status_pass.specs.EventsAndChanges.{event_words}
 use Rattle.status_pass.specs.declared.visit.WrittenCounts.{WrittenCounts}
 use Rattle.update_pass.specs.AllLaws.{length_parts}
 use Rattle.update_pass.specs.BitsLaws.{workers_most, entries_active}

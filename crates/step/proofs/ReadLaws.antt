@@ -2,9 +2,8 @@
 use Prim.Native.Nat.{ℕ, zero, suc, ◌+◌, ◌*◌, ◌≤◌, ◌<◌}
 use Rattle.std.proofs.Common.{not-suc-le-zero, le_of_suc-le-suc, zero-mul, add_assoc, arith, ap, ◌∙◌, get_or-append-add, SFits}
 use Rattle.std.proofs.Math.Nat.{suc-mul}
-use Rattle.std.specs.Prelude.{◌≡◌, refl, Bool, true, false, cond, eqb, ℤ, get_or, drop}
+use Rattle.std.specs.Prelude.{◌≡◌, refl, Bool, true, false, cond, eqb, ℤ, get_or, drop, Err, Ok, Result, Option, None, Some}
 use mathlib.Core.List.{List, [], ◌∷◌, ◌++◌, map, append_assoc}
-use Rattle.std.proofs.Math.Option.{Option, none, some}
 use Rattle.std.proofs.Math.ListN.{length}
 use Rattle.std.specs.Int.{w32}
 use Rattle.rows.specs.EachLaws.{length_each}
@@ -30,10 +29,10 @@ use Rattle.step.specs.AcceptedLaws.{accepted}
 use Rattle.step.specs.Step as step
 use Rattle.step.specs.Step.{Given, Rows, step_refusal, made_of, updated_graph, pass_of, rows_of, answer_of, plain_answer}
 use Rattle.step.proofs.StepLaws.{rows_ready}
-use Rattle.step.specs.declared.answer.StepAnswer.{StepAnswer}
-use Rattle.step.specs.declared.answer.StepAnswer.TheVariants as answer
 use Rattle.update_pass.specs.Shared.{standing_ids}
 use Rattle.step.specs.Read.{names_at, event_at, change_at, events_of, changes_of}
+use Rattle.step.specs.declared.answer.StepReport.{StepReport}
+use Rattle.contact_types.specs.declared.refusal.Refusal.{Refusal}
 
 -- ---- records of one size from a row's start on
 module _ {A : Type 0} (words : A → List ℕ) (read : List ℕ → ℕ → A) (n : ℕ) (size : (a : A) → length (words a) ≡ n) (Good : A → Type 0)
@@ -69,10 +68,10 @@ unfolding optional_words
 length_named kind n = go n.body1 n.body2
   where
     go : (a b : Option ℕ) → length (named_words kind (bodied n a b)) ≡ event_size
-    go none none = refl
-    go none (some b) = refl
-    go (some a) none = refl
-    go (some a) (some b) = refl
+    go None None = refl
+    go None (Some b) = refl
+    go (Some a) None = refl
+    go (Some a) (Some b) = refl
 
 length_event : (e : Event) → length (event_words e) ≡ event_size
 unfolding event_words
@@ -84,10 +83,10 @@ unfolding optional_words
 names_first kind n ws = go n.body1 n.body2
   where
     go : (a b : Option ℕ) → names_at (named_words kind (bodied n a b) ++ ws) 0 ≡ bodied n a b
-    go none none = refl
-    go none (some b) = refl
-    go (some a) none = refl
-    go (some a) (some b) = refl
+    go None None = refl
+    go None (Some b) = refl
+    go (Some a) None = refl
+    go (Some a) (Some b) = refl
 
 event_first : (e : Event) (ws : List ℕ) → Unit {0} → event_at (event_words e ++ ws) 0 ≡ e
 unfolding event_at event_words
@@ -145,18 +144,18 @@ small_stop false n = tt
 small_stop true n = go n.body1 n.body2
   where
     go : (a b : Option ℕ) → Small (stop_if true (bodied n a b))
-    go none b = tt
-    go (some a) none = tt
-    go (some a) (some b) = (tt, tt)
+    go None b = tt
+    go (Some a) None = tt
+    go (Some a) (Some b) = (tt, tt)
 
 small_count : (n : Names) (d : ℤ) → SFits w32 d → Small (count_of n d)
 unfolding AllGood
 small_count n d f = go n.body1 n.body2
   where
     go : (a b : Option ℕ) → Small (count_of (bodied n a b) d)
-    go none b = tt
-    go (some a) none = tt
-    go (some a) (some b) = (f, tt)
+    go None b = tt
+    go (Some a) None = tt
+    go (Some a) (Some b) = (f, tt)
 
 small_start : (b : Bool) (id : ℕ) → Small (cond b (start id ∷ []) [])
 unfolding AllGood
@@ -204,21 +203,21 @@ abbrev changes_in : step.Answer → ℕ
 changes_in (step.refused n) = 0
 changes_in (step.stepped events changes recycled) = changes
 
-events_told : (r : StepAnswer) (row : List ℕ) → events_of r row ≡ map (λ k. event_at row (k * event_size)) (upto (events_in (plain_answer r)))
+events_told : (r : Result StepReport Refusal) (row : List ℕ) → events_of r row ≡ map (λ k. event_at row (k * event_size)) (upto (events_in (plain_answer r)))
 unfolding upto
-events_told (answer.Done r) row = refl
-events_told (answer.Refused r) row = refl
+events_told (Ok r) row = refl
+events_told (Err r) row = refl
 
-changes_told : (r : StepAnswer) (row : List ℕ) → changes_of r row ≡ map (λ k. change_at row (k * change_size)) (upto (changes_in (plain_answer r)))
+changes_told : (r : Result StepReport Refusal) (row : List ℕ) → changes_of r row ≡ map (λ k. change_at row (k * change_size)) (upto (changes_in (plain_answer r)))
 unfolding upto
-changes_told (answer.Done r) row = refl
-changes_told (answer.Refused r) row = refl
+changes_told (Ok r) row = refl
+changes_told (Err r) row = refl
 
-pub refused_events : (r : StepAnswer) (row : List ℕ) (n : ℕ) → plain_answer r ≡ step.refused n → events_of r row ≡ []
+pub refused_events : (r : Result StepReport Refusal) (row : List ℕ) (n : ℕ) → plain_answer r ≡ step.refused n → events_of r row ≡ []
 unfolding upto
 refused_events r row n e = events_told r row ∙ ap (λ (a : step.Answer). map (λ k. event_at row (k * event_size)) (upto (events_in a))) e
 
-pub refused_changes : (r : StepAnswer) (row : List ℕ) (n : ℕ) → plain_answer r ≡ step.refused n → changes_of r row ≡ []
+pub refused_changes : (r : Result StepReport Refusal) (row : List ℕ) (n : ℕ) → plain_answer r ≡ step.refused n → changes_of r row ≡ []
 unfolding upto
 refused_changes r row n e = changes_told r row ∙ ap (λ (a : step.Answer). map (λ k. change_at row (k * change_size)) (upto (changes_in a))) e
 
@@ -235,7 +234,7 @@ module _ (x : Given) (g : List ℕ) (l : Rows) (e : step_refusal x g l ≡ 0) wh
       let few = pass_changes (begun (updated_graph x g)) (standing_ids (made_of x g) g) in
       omega (arith, few, (rows_ready (accepted x g l e)).change_room)
 
-  module _ (l' : Rows) (r : StepAnswer) (p : plain_answer r ≡ answer_of x g) (q : l' ≡ rows_of x g l) where
+  module _ (l' : Rows) (r : Result StepReport Refusal) (p : plain_answer r ≡ answer_of x g) (q : l' ≡ rows_of x g l) where
     pub events_read : events_of r l'.events ≡ (pass_of x g).events
     unfolding answer_of rows_of
     events_read =

@@ -1,5 +1,5 @@
 -- What the shares tell in what a step leaves: the bit words alone, each worker's contacts in its own part. Assumes nothing.
-use Prim.Native.Nat.{ℕ, ◌+◌, ◌-◌, ◌*◌, ◌/◌, ◌%◌, ◌<◌}
+use Prim.Native.Nat.{ℕ, ◌+◌, ◌*◌, ◌/◌, ◌%◌, ◌<◌}
 use Rattle.std.proofs.Common.{not-suc-le-zero, ◌∙◌, ltb-true}
 use native.Mathlib.Omega.{arith}
 use Rattle.std.specs.Prelude.{◌≡◌, Bool, cond, ◌&&◌, List, [], get_or}

@@ -1,5 +1,5 @@
 -- The step's answer by its refusal. Assumes nothing.
-use Rattle.std.specs.Prelude.{ℕ, ◌≡◌, true, ◌&&◌, List}
+use Rattle.std.specs.Prelude.{ℕ, ◌≡◌, true, ◌&&◌, List, Err, Ok}
 use Rattle.contact_graph.specs.CallLaws.{checked}
 use Rattle.contact_range.specs.Checked.{Checked}
 use Rattle.contact_range.specs.Range.{right_length}
@@ -11,13 +11,12 @@ use Rattle.contact_types.specs.declared.refusal.Refusal.{Refusal}
 use Rattle.step.specs.AcceptedLaws.{GivenWords, given_words, number_tests}
 use Rattle.step.specs.Step.{Given, Rows, given_long, rows_long, lengths_fit, numbers_fit, step_refusal, StepDone, Stepped}
 use Rattle.step.specs.declared.answer.StepReport.{StepReport}
-use Rattle.step.specs.declared.answer.StepAnswer.TheVariants as answer
 
 module _ (x : Given) (g : List ℕ) (l : Rows) where
-  pub step_refused : (r : Refusal) → step_refusal x g l ≡ number_of r → Stepped x g l g l (answer.Refused r)
+  pub step_refused : (r : Refusal) → step_refusal x g l ≡ number_of r → Stepped x g l g l (Err r)
   step_refused r e = let z = some_number r in record { answer = rw (e, z); graph = rw (e, z); rows = rw (e, z) }
 
-  pub step_kept : {g' : List ℕ} {l' : Rows} {r : StepReport} → step_refusal x g l ≡ 0 → StepDone x g l g' l' r → Stepped x g l g' l' (answer.Done r)
+  pub step_kept : {g' : List ℕ} {l' : Rows} {r : StepReport} → step_refusal x g l ≡ 0 → StepDone x g l g' l' r → Stepped x g l g' l' (Ok r)
   step_kept e d = record { answer = rw e d.answer; graph = rw e d.graph; rows = rw e d.rows }
 
   -- ---- what the tests before tell

@@ -1,5 +1,5 @@
 -- The step's promise has one outcome, and no other: the answer itself and every lent word. Assumes nothing.
-use Rattle.std.specs.Prelude.{ℕ, ◌≡◌, Bool, cond, not, List, eqb}
+use Rattle.std.specs.Prelude.{ℕ, ◌≡◌, Bool, cond, not, List, eqb, Err, Ok, Result}
 use Rattle.std.proofs.Math.Path.{refl}
 use Rattle.std.proofs.Common.{sym, ap, ◌∙◌}
 use Rattle.std.proofs.Math.Logic.{inl, inr}
@@ -10,16 +10,16 @@ use Rattle.contact_types.specs.declared.refusal.Refusal.TheVariants.{WrongLength
 use Rattle.shares.specs.Shares.{shares_fit}
 use Rattle.update_pass.specs.Shared.{active_of, recycled_of}
 use Rattle.step.specs.Step.{Given, Rows, lengths_fit, numbers_fit, proposals_fit, step_refusal, made_of, pass_of, rows_of, Answer, refused, stepped, plain_answer, answer_of, Stepped}
-use Rattle.step.specs.declared.answer.StepAnswer.{StepAnswer}
-use Rattle.step.specs.declared.answer.StepAnswer.TheVariants as answer
+use Rattle.step.specs.declared.answer.StepReport.{StepReport}
+use Rattle.contact_types.specs.declared.refusal.Refusal.{Refusal}
 
-abbrev step_of : Answer → StepAnswer
-step_of (stepped events changes recycled) = answer.Done (record { events = events; changes = changes; recycled = recycled })
-step_of (refused n) = answer.Refused (refusal_for n)
+abbrev step_of : Answer → Result StepReport Refusal
+step_of (stepped events changes recycled) = Ok (record { events = events; changes = changes; recycled = recycled })
+step_of (refused n) = Err (refusal_for n)
 
-step_of_lem : (r : StepAnswer) → step_of (plain_answer r) ≡ r
-step_of_lem (answer.Done r) = refl
-step_of_lem (answer.Refused r) = ap answer.Refused (refusal_for_lem r)
+step_of_lem : (r : Result StepReport Refusal) → step_of (plain_answer r) ≡ r
+step_of_lem (Ok r) = refl
+step_of_lem (Err r) = ap Err (refusal_for_lem r)
 
 module _ (x : Given) (g : List ℕ) (l : Rows) where
   step_numbered : Numbered (step_refusal x g l)
@@ -33,14 +33,14 @@ module _ (x : Given) (g : List ℕ) (l : Rows) where
       tests true true true false = inr (InvalidShares, refl)
       tests true true true true = inl refl
 
-  pub step_determined : {g' g'' : List ℕ} {l' l'' : Rows} {r r' : StepAnswer} → Stepped x g l g' l' r → Stepped x g l g'' l'' r' → (r' ≡ r) × (g'' ≡ g') × (l'' ≡ l')
+  pub step_determined : {g' g'' : List ℕ} {l' l'' : Rows} {r r' : Result StepReport Refusal} → Stepped x g l g' l' r → Stepped x g l g'' l'' r' → (r' ≡ r) × (g'' ≡ g') × (l'' ≡ l')
   step_determined p q = (same_by plain_answer step_of step_of_lem p.answer q.answer, q.graph ∙ sym p.graph, q.rows ∙ sym p.rows)
 
-  pub step_answered : (r : StepAnswer) × Stepped x g l (cond (eqb (step_refusal x g l) 0) (pass_of x g).graph g) (cond (eqb (step_refusal x g l) 0) (rows_of x g l) l) r
+  pub step_answered : (r : Result StepReport Refusal) × Stepped x g l (cond (eqb (step_refusal x g l) 0) (pass_of x g).graph g) (cond (eqb (step_refusal x g l) 0) (rows_of x g l) l) r
   unfolding answer_of
   step_answered =
       let events = length (pass_of x g).events in
       let changes = length (pass_of x g).changes in
       let recycled = recycled_of (made_of x g) (active_of g) in
-      let a = answered_by plain_answer refused (answer.Done (record { events = events; changes = changes; recycled = recycled })) answer.Refused (answer_of x g) refl (λ r. refl) (step_refusal x g l) step_numbered in
+      let a = answered_by plain_answer refused (Ok (record { events = events; changes = changes; recycled = recycled })) Err (answer_of x g) refl (λ r. refl) (step_refusal x g l) step_numbered in
       (a.0, record { answer = a.1; graph = refl; rows = refl })

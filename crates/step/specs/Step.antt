@@ -1,5 +1,5 @@
 -- The step: when it is refused, what it answers, and every word of the rows that it is lent. Definitions only.
-use Rattle.std.specs.Prelude.{ℕ, ◌*◌, ◌≡◌, Bool, cond, not, ◌&&◌, List, eqb, length}
+use Rattle.std.specs.Prelude.{ℕ, ◌*◌, ◌≡◌, Bool, cond, not, ◌&&◌, List, eqb, length, Err, Ok, Result}
 use Rattle.rows.specs.Rows.{put, each}
 use Rattle.rules.specs.Inputs.{Inputs}
 use Rattle.rules.specs.Numbers.{every}
@@ -27,8 +27,8 @@ use Rattle.status_pass.specs.Pass.{Passing, begun, pass_words}
 use Rattle.status_pass.specs.EventsAndChanges.{event_words, change_words}
 use Rattle.update_pass.specs.Shared.{active_of, recycled_of, parts_of, standing_ids, distances_of, bits_length}
 use Rattle.step.specs.declared.answer.StepReport.{StepReport}
-use Rattle.step.specs.declared.answer.StepAnswer.{StepAnswer}
-use Rattle.step.specs.declared.answer.StepAnswer.TheVariants as answer
+use Rattle.step.specs.declared.input.StepInput.{StepInput}
+use Rattle.contact_types.specs.declared.refusal.Refusal.{Refusal}
 
 -- what a step is lent to read
 pub record Given : Type 0 where
@@ -47,6 +47,10 @@ pub record Rows : Type 0 where
 
 abbrev pub given : List ℕ → List ℕ → List ℕ → List ℕ → List ℕ → Given
 given settings colliders bodies proposals shares = record { settings = settings; colliders = colliders; bodies = bodies; proposals = proposals; shares = shares }
+
+-- the same of the struct that the code is lent
+abbrev pub given_rows : StepInput → Given
+given_rows input = given input.settings.now input.colliders.now input.bodies.now input.proposals.now input.shares.now
 
 abbrev pub rows : List ℕ → List ℕ → List ℕ → List ℕ → Rows
 rows bits events changes distances = record { bits = bits; events = events; changes = changes; distances = distances }
@@ -119,9 +123,9 @@ pub data Answer : Type 0 where
   refused : ℕ → Answer
   stepped : (events changes recycled : ℕ) → Answer
 
-abbrev pub plain_answer : StepAnswer → Answer
-plain_answer (answer.Done r) = stepped r.events r.changes r.recycled
-plain_answer (answer.Refused r) = refused (number_of r)
+abbrev pub plain_answer : Result StepReport Refusal → Answer
+plain_answer (Ok r) = stepped r.events r.changes r.recycled
+plain_answer (Err r) = refused (number_of r)
 
 unfoldable pub answer_of : Given → List ℕ → Answer
 answer_of x g = stepped (length (pass_of x g).events) (length (pass_of x g).changes) (recycled_of (made_of x g) (active_of g))
@@ -133,7 +137,7 @@ pub record StepDone (x : Given) (g : List ℕ) (l : Rows) (g' : List ℕ) (l' : 
   pub rows : l' ≡ rows_of x g l
 
 -- The promise of `step`.
-pub record Stepped (x : Given) (g : List ℕ) (l : Rows) (g' : List ℕ) (l' : Rows) (r : StepAnswer) : Type 0 where
+pub record Stepped (x : Given) (g : List ℕ) (l : Rows) (g' : List ℕ) (l' : Rows) (r : Result StepReport Refusal) : Type 0 where
   pub answer : plain_answer r ≡ cond (eqb (step_refusal x g l) 0) (answer_of x g) (refused (step_refusal x g l))
   pub graph : g' ≡ cond (eqb (step_refusal x g l) 0) (pass_of x g).graph g
   pub rows : l' ≡ cond (eqb (step_refusal x g l) 0) (rows_of x g l) l

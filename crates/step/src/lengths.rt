@@ -1,37 +1,32 @@
 // Refusal 1: the capacity, and the length of each lent row for it.
 ghost use Rattle.std.specs.Prelude.{◌≡◌, ◌≤◌};
 ghost use Rattle.rules.specs.Limits.{most_contacts};
-ghost use Rattle.step.specs.Step.{given, rows, given_long, rows_long, lengths_fit};
+ghost use Rattle.step.specs.Step.{given_rows, rows, given_long, rows_long, lengths_fit};
 
-use contact_range::places::number_at;
+use crate::input::StepInput;
 use contact_range::range::right_length;
 use data_structures::bit_vec::blocks;
 use layout::body::BODIES_LENGTH;
 use layout::change::CHANGE_SIZE;
 use layout::collider::COLLIDERS_LENGTH;
 use layout::event::EVENT_SIZE;
+use layout::graph::GRAPH_CAPACITY;
 use layout::limits::MOST_WORKERS;
 use layout::proposal::PROPOSAL_SIZE;
 use layout::settings::SETTINGS_LENGTH;
 use layout::shares::SHARES_ENTRIES;
+use words::load::load;
 
 // What is lent to read.
-fn given_long(
-    settings: &[u32],
-    colliders: &[u32],
-    bodies: &[u32],
-    proposals: &[u32],
-    shares: &[u32],
-    capacity: usize,
-) -> bool
+fn given_long(input: &StepInput<'_>, capacity: usize) -> bool
     requires { capacity ≤ most_contacts }
-    ensures { result ≡ given_long (given settings.now colliders.now bodies.now proposals.now shares.now) capacity }
+    ensures { result ≡ given_long (given_rows input.now) capacity }
 {
-    (settings.len() == SETTINGS_LENGTH)
-        & ((colliders.len() == COLLIDERS_LENGTH)
-            & ((bodies.len() == BODIES_LENGTH)
-                & ((proposals.len() == capacity * PROPOSAL_SIZE)
-                    & (shares.len() == SHARES_ENTRIES + capacity))))
+    (input.settings.len() == SETTINGS_LENGTH)
+        & ((input.colliders.len() == COLLIDERS_LENGTH)
+            & ((input.bodies.len() == BODIES_LENGTH)
+                & ((input.proposals.len() == capacity * PROPOSAL_SIZE)
+                    & (input.shares.len() == SHARES_ENTRIES + capacity))))
 }
 
 // What is lent to write, beside the graph.
@@ -52,24 +47,20 @@ fn rows_long(
 }
 
 pub fn lengths_fit(
-    settings: &[u32],
-    colliders: &[u32],
-    bodies: &[u32],
-    proposals: &[u32],
-    shares: &[u32],
+    input: &StepInput<'_>,
     graph: &[u32],
     bits: &[u64],
     events: &[u32],
     changes: &[u32],
     distances: &[u32],
 ) -> bool
-    ensures { result ≡ lengths_fit (given settings.now colliders.now bodies.now proposals.now shares.now) graph.now (rows bits.now events.now changes.now distances.now) }
+    ensures { result ≡ lengths_fit (given_rows input.now) graph.now (rows bits.now events.now changes.now distances.now) }
 {
     if !right_length(graph) {
         return false;
     }
-    let capacity = number_at(graph, 0);
-    if !given_long(settings, colliders, bodies, proposals, shares, capacity) {
+    let capacity = load::<usize>(graph, GRAPH_CAPACITY);
+    if !given_long(input, capacity) {
         return false;
     }
     rows_long(bits, events, changes, distances, capacity)

@@ -2,6 +2,7 @@
 #![tactic(auto)]
 
 pub mod answer;
+pub mod input;
 pub mod lengths;
 pub mod numbers;
 pub mod step;

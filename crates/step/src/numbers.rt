@@ -7,14 +7,16 @@ ghost use Rattle.layout.specs.Settings.{settings_length};
 ghost use Rattle.contact_range.specs.Checked.{Checked};
 ghost use Rattle.contact_range.specs.Range.{right_length};
 ghost use Rattle.contact_range.specs.Recorded.{capacity_of, listed_count, listed_at};
-ghost use Rattle.step.specs.Step.{hooks_fit, rows_in_range, proposals_fit};
+ghost use Rattle.step.specs.Step.{given_rows, hooks_fit, numbers_fit, proposals_fit};
 
+use crate::input::StepInput;
 use collider::range::{bodies_fit, colliders_fit, settings_fit};
-use contact_range::places::{id_at, number_at};
+use contact_range::places::id_at;
 use contact_range::range::in_range;
 use layout::graph::{GRAPH_LIST, GRAPH_LISTED};
 use layout::proposal::PROPOSAL_SIZE;
 use proposals::proposal::{hook_fits, proposal_fits};
+use words::load::load;
 
 // Where the proposal of the contact at a place of the list begins.
 fn proposal_at(graph: &[u32], p: usize) -> usize
@@ -30,15 +32,8 @@ fn hooks_fit(proposals: &[u32], graph: &[u32]) -> bool
     requires { Checked graph.now × (length proposals.now ≡ capacity_of graph.now * proposal_size) }
     ensures { result ≡ hooks_fit proposals.now graph.now }
 {
-    let listed = number_at(graph, GRAPH_LISTED);
-    let mut p = 0;
-    while p < listed {
-        if !hook_fits(proposals, proposal_at(graph, p)) {
-            return false;
-        }
-        p += 1;
-    }
-    true
+    let listed = load::<usize>(graph, GRAPH_LISTED);
+    (0..listed).all(|p| hook_fits(proposals, proposal_at(graph, p)))
 }
 
 // No active pair's proposal has more manifolds, nor a manifold of it more points, than the limits.
@@ -46,38 +41,25 @@ pub fn proposals_fit(proposals: &[u32], graph: &[u32]) -> bool
     requires { Checked graph.now × (length proposals.now ≡ capacity_of graph.now * proposal_size) }
     ensures { result ≡ proposals_fit proposals.now graph.now }
 {
-    let listed = number_at(graph, GRAPH_LISTED);
-    let mut p = 0;
-    while p < listed {
-        if !proposal_fits(proposals, proposal_at(graph, p)) {
-            return false;
-        }
-        p += 1;
-    }
-    true
+    let listed = load::<usize>(graph, GRAPH_LISTED);
+    (0..listed).all(|p| proposal_fits(proposals, proposal_at(graph, p)))
 }
 
-pub fn numbers_fit(
-    settings: &[u32],
-    colliders: &[u32],
-    bodies: &[u32],
-    proposals: &[u32],
-    graph: &[u32],
-) -> bool
-    requires { (length settings.now ≡ settings_length) × (length colliders.now ≡ colliders_length) × (length bodies.now ≡ bodies_length) × (length proposals.now ≡ capacity_of graph.now * proposal_size) × (right_length graph.now ≡ true) }
-    ensures { result ≡ rows_in_range settings.now colliders.now bodies.now proposals.now graph.now }
+pub fn numbers_fit(input: &StepInput<'_>, graph: &[u32]) -> bool
+    requires { (length input.now.settings.now ≡ settings_length) × (length input.now.colliders.now ≡ colliders_length) × (length input.now.bodies.now ≡ bodies_length) × (length input.now.proposals.now ≡ capacity_of graph.now * proposal_size) × (right_length graph.now ≡ true) }
+    ensures { result ≡ numbers_fit (given_rows input.now) graph.now }
 {
-    if !settings_fit(settings) {
+    if !settings_fit(input.settings) {
         return false;
     }
-    if !colliders_fit(colliders) {
+    if !colliders_fit(input.colliders) {
         return false;
     }
-    if !bodies_fit(bodies) {
+    if !bodies_fit(input.bodies) {
         return false;
     }
     if !in_range(graph) {
         return false;
     }
-    hooks_fit(proposals, graph)
+    hooks_fit(input.proposals, graph)
 }

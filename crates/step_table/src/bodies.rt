@@ -1,7 +1,6 @@
 // Bodies that move.
 use crate::choices::choice;
-use crate::given::BODIES_PLACE;
-use case_draws::draws::{draw, low, slot, style};
+use case_draws::draws::{Floats, draw, pick, slot, style};
 use case_draws::numbers::{BODY_CENTER_OF_MASS, BODY_POSITION, BODY_ROTATION, BODY_SIZE};
 use case_draws::places::{put, word};
 use math::bits::{bits_of, float_of};
@@ -32,50 +31,31 @@ const WILD: [u32; 8] = [
 
 fn moved(j: u32, wild: bool, w: u32) -> u32 {
     if wild {
-        WILD[(j % 8) as usize]
+        pick(&WILD, j)
     } else {
-        bits_of(float_of(w) + float_of(MOVES[(j % 8) as usize]))
+        bits_of(float_of(w) + float_of(pick(&MOVES, j)))
     }
-}
-
-fn moved_position(d: u32, wild: bool, w: u32) -> u32 {
-    if d % 4 == 0 { moved(d / 4, wild, w) } else { w }
-}
-
-fn moved_rotation(d: u32, wild: bool, w: u32) -> u32 {
-    if d % 8 == 0 { moved(d / 8, wild, w) } else { w }
 }
 
 // One in four parts of the position is moved, and one in eight of the rotation.
 fn moved_word(owner: u32, i: u32, wild: bool, w: u32) -> u32 {
     let d = choice(owner, slot(80, i));
-    if i < BODY_ROTATION {
-        moved_position(d, wild, w)
-    } else {
-        moved_rotation(d, wild, w)
-    }
+    let n = if i < BODY_ROTATION { 4 } else { 8 };
+    if d % n == 0 { moved(d / n, wild, w) } else { w }
 }
 
-const BODIES_START: u64 = BODIES_PLACE as u64;
-
-const BODY_WORDS: u64 = BODY_SIZE as u64;
-
-fn move_body(given: &mut [u32], n: u32, wild: bool, call: u32) {
+fn move_body(bodies: &mut [u32], n: u32, wild: bool, call: u32) {
     let owner = draw(call, slot(20, n));
-    let mut i = BODY_POSITION;
-    while i < BODY_CENTER_OF_MASS {
-        let at = low(BODIES_START + BODY_WORDS * n as u64 + i as u64) as u32;
-        put(given, at, moved_word(owner, i, wild, word(given, at)));
-        i += 1;
+    for i in BODY_POSITION..BODY_CENTER_OF_MASS {
+        let at = BODY_SIZE.wrapping_mul(n).wrapping_add(i);
+        put(bodies, at, moved_word(owner, i, wild, word(bodies, at)));
     }
 }
 
 // Where floats are awkward, one of them moves far.
-pub fn move_bodies(given: &mut [u32], count: u32, one: u32, call: u32) {
-    let far = style(call) == 2;
-    let mut n = 0;
-    while n < count {
-        move_body(given, n, far & (n == one), call);
-        n += 1;
+pub fn move_bodies(bodies: &mut [u32], count: u32, one: u32, call: u32) {
+    let far = style(call) == Floats::Awkward;
+    for n in 0..count {
+        move_body(bodies, n, far && n == one, call);
     }
 }

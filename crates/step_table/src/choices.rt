@@ -4,6 +4,7 @@ ghost use Rattle.std.specs.Prelude.{◌≤◌};
 use crate::given::LARGEST;
 use case_draws::draws::{draw, slot};
 
+// Past every limit, so that a call that is given it is refused.
 pub const NO_NUMBER: u32 = 0xffff_ffff;
 
 pub fn choice(key: u32, slot: u32) -> u32 {

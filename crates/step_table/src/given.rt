@@ -1,30 +1,98 @@
-// What a step is lent to read stands in one row: shares, settings, colliders, bodies and proposals, with room for the largest capacity.
-use case_draws::numbers::{
-    BODY_SIZE, CHANGE_SIZE, COLLIDER_SIZE, EVENT_SIZE, GRAPH_CONTACT_SIZE, GRAPH_LIST,
-    MOST_WORKERS, PROPOSAL_SIZE, SETTINGS_LENGTH, SHARES_ENTRIES,
-};
-use layout::limits::{BODIES, COLLIDERS};
+// What a step is lent to read, with room for the largest capacity: drawn at a list's start, and what of it is drawn anew before a step.
+use crate::bodies::move_bodies;
+use crate::choices::{below, choice};
+use crate::proposal_draws::fill_proposals;
+use crate::share_draws::fill_shares;
+use case_draws::bodies::body_word;
+use case_draws::colliders::collider_word;
+use case_draws::numbers::{BODY_SIZE, COLLIDER_SIZE};
+use case_draws::places::{fill, fill_nth};
+use case_draws::settings::setting_word;
+use layout::body::BODIES_LENGTH;
+use layout::collider::COLLIDERS_LENGTH;
+use layout::proposal::PROPOSAL_SIZE;
+use layout::settings::SETTINGS_LENGTH;
+use layout::shares::SHARES_ENTRIES;
 
 // Of a list.
 pub const LARGEST: u32 = 64;
 
-pub const SETTINGS_PLACE: u32 = SHARES_ENTRIES + LARGEST;
+pub const LARGEST_LENGTH: usize = LARGEST as usize;
 
-pub const COLLIDERS_PLACE: u32 = SETTINGS_PLACE + SETTINGS_LENGTH;
+const SHARES_LENGTH: usize = SHARES_ENTRIES + LARGEST_LENGTH;
 
-pub const BODIES_PLACE: u32 = COLLIDERS_PLACE + COLLIDERS * COLLIDER_SIZE;
+const PROPOSALS_LENGTH: usize = PROPOSAL_SIZE * LARGEST_LENGTH;
 
-pub const PROPOSALS_PLACE: u32 = BODIES_PLACE + BODIES * BODY_SIZE;
+#[derive(Clone, Copy)]
+pub struct Given {
+    pub settings: [u32; SETTINGS_LENGTH],
+    pub colliders: [u32; COLLIDERS_LENGTH],
+    pub bodies: [u32; BODIES_LENGTH],
+    pub proposals: [u32; PROPOSALS_LENGTH],
+    pub shares: [u32; SHARES_LENGTH],
+}
 
-pub const GIVEN_LENGTH: usize = (PROPOSALS_PLACE + LARGEST * PROPOSAL_SIZE) as usize;
+impl Given {
+    // With so many colliders, and bodies.
+    pub fn new(count: u32, key: u32) -> Self {
+        let mut given = Given {
+            settings: [0; SETTINGS_LENGTH],
+            colliders: [0; COLLIDERS_LENGTH],
+            bodies: [0; BODIES_LENGTH],
+            proposals: [0; PROPOSALS_LENGTH],
+            shares: [0; SHARES_LENGTH],
+        };
+        given.fill_settings(key);
+        given.fill_all(count, key);
+        given
+    }
 
-// The rows that the largest capacity asks for beside it. Of bits there is a word for each worker.
-pub const GRAPH_LENGTH: usize = (GRAPH_LIST + GRAPH_CONTACT_SIZE * LARGEST) as usize;
+    fn fill_settings(&mut self, key: u32) {
+        fill(&mut self.settings, 0, SETTINGS_LENGTH as u32, |i| {
+            setting_word(key, i)
+        });
+    }
 
-pub const BITS_LENGTH: usize = MOST_WORKERS as usize;
+    fn fill_collider(&mut self, n: u32, key: u32) {
+        fill_nth(&mut self.colliders, n, COLLIDER_SIZE, |i| {
+            collider_word(key, n, i)
+        });
+    }
 
-pub const EVENTS_LENGTH: usize = (EVENT_SIZE * LARGEST) as usize;
+    fn fill_body(&mut self, n: u32, key: u32) {
+        fill_nth(&mut self.bodies, n, BODY_SIZE, |i| body_word(key, n, i));
+    }
 
-pub const CHANGES_LENGTH: usize = (CHANGE_SIZE * LARGEST) as usize;
+    fn fill_all(&mut self, count: u32, key: u32) {
+        for n in 0..count {
+            self.fill_collider(n, key);
+            self.fill_body(n, key);
+        }
+    }
 
-pub const DISTANCES_LENGTH: usize = LARGEST as usize;
+    // All anew, one, one collider, one body, all bodies moved, or nothing.
+    fn change_things(&mut self, count: u32, call: u32) {
+        let one = below(choice(call, 63), count);
+        match choice(call, 62) % 16 {
+            0 => self.fill_all(count, call),
+            1..=3 => {
+                self.fill_collider(one, call);
+                self.fill_body(one, call);
+            }
+            4 | 5 => self.fill_collider(one, call),
+            6 => self.fill_body(one, call),
+            7..=12 => move_bodies(&mut self.bodies, count, one, call),
+            _ => {}
+        }
+    }
+
+    // Before a step.
+    pub fn change(&mut self, graph: &[u32], count: u32, call: u32) {
+        if choice(call, 61) % 8 == 0 {
+            self.fill_settings(call);
+        }
+        self.change_things(count, call);
+        fill_proposals(&mut self.proposals, graph, call);
+        fill_shares(&mut self.shares, graph, call);
+    }
+}

@@ -11,8 +11,8 @@ mod impulses;
 mod lists;
 mod proposal_draws;
 mod request;
-mod row_draws;
 mod share_draws;
+mod written;
 
 use std::io;
 use std::io::{BufWriter, Write};

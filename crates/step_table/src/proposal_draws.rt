@@ -1,33 +1,25 @@
 // The proposals of a step: new ones for the listed pairs, at times one with a count over its limit.
 use crate::choices::{below, choice, over};
-use crate::given::PROPOSALS_PLACE;
-use crate::graph::{inactive_id, listed, listed_id};
-use case_draws::draws::{low, slot};
-use case_draws::fill::{Drawn, fill};
+use crate::graph::inactive_id;
+use case_draws::draws::slot;
+use case_draws::graph::{listed, listed_id};
+use case_draws::manifolds::proposal_word;
 use case_draws::numbers::{
     GRAPH_CAPACITY, MANIFOLDS, PROPOSAL_COUNT, PROPOSAL_MANIFOLDS, PROPOSAL_SIZE,
     PROPOSED_MANIFOLD_COUNT, PROPOSED_MANIFOLD_SIZE, PROPOSED_POINTS,
 };
-use case_draws::places::{put, word};
+use case_draws::places::{fill_nth, put, word};
 
 // The i-th word of an id's proposal.
 fn place(id: u32, i: u32) -> u32 {
-    low(PROPOSALS_PLACE as u64 + PROPOSAL_SIZE as u64 * id as u64 + i as u64) as u32
+    PROPOSAL_SIZE.wrapping_mul(id).wrapping_add(i)
 }
 
-fn fill_listed(given: &mut [u32], graph: &[u32], call: u32) {
-    let count = listed(graph);
-    let mut q = 0;
-    while q < count {
+fn fill_listed(proposals: &mut [u32], graph: &[u32], call: u32) {
+    for q in 0..listed(graph) {
         let id = listed_id(graph, q);
-        fill(
-            given,
-            place(id, 0),
-            PROPOSAL_SIZE,
-            Drawn::Proposal,
-            choice(call, slot(300, id)),
-        );
-        q += 1;
+        let case = choice(call, slot(300, id));
+        fill_nth(proposals, id, PROPOSAL_SIZE, |i| { proposal_word(case, i) });
     }
 }
 
@@ -39,7 +31,7 @@ fn count_place(d: u32) -> u32 {
 }
 
 // The manifolds of a listed pair, the points of one of its manifolds, the manifolds of an id that is not listed.
-fn overfill(given: &mut [u32], graph: &[u32], call: u32) {
+fn overfill(proposals: &mut [u32], graph: &[u32], call: u32) {
     let d = choice(call, 64);
     let e = choice(call, 65);
     let count = listed(graph);
@@ -47,23 +39,31 @@ fn overfill(given: &mut [u32], graph: &[u32], call: u32) {
     let other = inactive_id(graph, call);
     match d % 24 {
         0 => if 0 < count {
-            put(given, place(id, PROPOSAL_COUNT), over(MANIFOLDS, d / 24));
+            put(
+                proposals,
+                place(id, PROPOSAL_COUNT),
+                over(MANIFOLDS, d / 24),
+            );
         },
         1 => if 0 < count {
             put(
-                given,
+                proposals,
                 place(id, count_place(e / 64)),
                 over(PROPOSED_POINTS, d / 24),
             );
         },
         2 => if other < word(graph, GRAPH_CAPACITY) {
-            put(given, place(other, PROPOSAL_COUNT), over(MANIFOLDS, d / 24));
+            put(
+                proposals,
+                place(other, PROPOSAL_COUNT),
+                over(MANIFOLDS, d / 24),
+            );
         },
         _ => {}
     }
 }
 
-pub fn fill_proposals(given: &mut [u32], graph: &[u32], call: u32) {
-    fill_listed(given, graph, call);
-    overfill(given, graph, call);
+pub fn fill_proposals(proposals: &mut [u32], graph: &[u32], call: u32) {
+    fill_listed(proposals, graph, call);
+    overfill(proposals, graph, call);
 }

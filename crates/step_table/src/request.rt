@@ -36,7 +36,7 @@ fn collider2(call: u32, colliders: u32, first: u32) -> u32 {
 
 // 0 in one of three.
 fn mark(call: u32, slot: u32) -> u32 {
-    if choice(call, slot) % 3 == 0 { 0 } else { 1 }
+    u32::from(choice(call, slot) % 3 != 0)
 }
 
 // Behind a mark of 0 any word.

@@ -2,56 +2,19 @@
 ghost use Rattle.std.specs.Prelude.{◌≤◌};
 ghost use Rattle.rules.specs.Limits.{most_workers};
 
-use crate::choices::{NO_NUMBER, choice, over};
-use crate::graph::{inactive_id, listed, listed_id};
+use crate::choices::{NO_NUMBER, below, choice, over};
+use crate::graph::inactive_id;
 use case_draws::draws::{past, slot};
+use case_draws::graph::{listed, listed_id};
 use case_draws::numbers::{
     GRAPH_CAPACITY, MOST_WORKERS, SHARES_COUNTS, SHARES_ENTRIES, SHARES_WORKERS,
 };
-use case_draws::places::{put, word};
-
-// Any words.
-fn fill_any(shares: &mut [u32], count: u32, call: u32) {
-    let mut i = 0;
-    while i < count {
-        put(shares, i, choice(call, slot(600, i)));
-        i += 1;
-    }
-}
-
-fn fill_ids(shares: &mut [u32], graph: &[u32], count: u32) {
-    let mut q = 0;
-    while q < count {
-        put(shares, slot(SHARES_ENTRIES, q), listed_id(graph, q));
-        q += 1;
-    }
-}
-
-fn exchange(shares: &mut [u32], a: u32, b: u32) {
-    let first = word(shares, a);
-    put(shares, a, word(shares, b));
-    put(shares, b, first);
-}
+use case_draws::places::{exchange, fill, put, raise, word};
 
 fn shuffle(shares: &mut [u32], count: u32, call: u32) {
-    let mut q = count;
-    while q > 1 {
-        let other = choice(call, slot(400, q - 1)) % q;
-        exchange(
-            shares,
-            slot(SHARES_ENTRIES, q - 1),
-            slot(SHARES_ENTRIES, other),
-        );
-        q -= 1;
-    }
-}
-
-// From one place to another.
-fn clear_counts(shares: &mut [u32], from: u32, end: u32) {
-    let mut i = from;
-    while i < end {
-        put(shares, i, 0);
-        i += 1;
+    for q in (1..count).rev() {
+        let other = below(choice(call, slot(400, q)), slot(q, 1));
+        exchange(shares, slot(SHARES_ENTRIES, q), slot(SHARES_ENTRIES, other));
     }
 }
 
@@ -66,27 +29,13 @@ fn worker_place(call: u32, q: u32) -> u32 {
     slot(SHARES_COUNTS, choice(call, slot(500, q)) % workers(call))
 }
 
-fn raise(shares: &mut [u32], at: u32) {
-    put(shares, at, slot(word(shares, at), 1));
-}
-
-fn lower(shares: &mut [u32], at: u32) {
-    put(shares, at, past(word(shares, at), 1));
-}
-
-fn count_each(shares: &mut [u32], count: u32, call: u32) {
-    let mut q = 0;
-    while q < count {
-        raise(shares, worker_place(call, q));
-        q += 1;
-    }
-}
-
 fn fill_counts(shares: &mut [u32], count: u32, call: u32) {
     let workers = workers(call);
     put(shares, SHARES_WORKERS, workers);
-    clear_counts(shares, SHARES_COUNTS, slot(SHARES_COUNTS, workers));
-    count_each(shares, count, call);
+    fill(shares, SHARES_COUNTS, workers, |_| 0);
+    for q in 0..count {
+        raise(shares, worker_place(call, q), 1);
+    }
 }
 
 // The places before the first count, and before the first id.
@@ -96,7 +45,7 @@ const BEFORE_ENTRIES: u32 = SHARES_ENTRIES - 1;
 
 // One id more for the last worker.
 fn append(shares: &mut [u32], count: u32, capacity: u32, id: u32, call: u32) {
-    raise(shares, slot(BEFORE_COUNTS, workers(call)));
+    raise(shares, slot(BEFORE_COUNTS, workers(call)), 1);
     if count < capacity {
         put(shares, slot(SHARES_ENTRIES, count), id);
     }
@@ -105,7 +54,8 @@ fn append(shares: &mut [u32], count: u32, capacity: u32, id: u32, call: u32) {
 // Nothing but the number of workers is wrong.
 fn too_many_workers(shares: &mut [u32], x: u32, call: u32) {
     put(shares, SHARES_WORKERS, over(MOST_WORKERS, x));
-    clear_counts(shares, slot(SHARES_COUNTS, workers(call)), SHARES_ENTRIES);
+    let unused = slot(SHARES_COUNTS, workers(call));
+    fill(shares, unused, past(SHARES_ENTRIES, unused), |_| 0);
 }
 
 // A fault in the ids, where some are listed: one twice in another's place, one more, one not counted, one that is not active.
@@ -119,7 +69,10 @@ fn spoil_ids(shares: &mut [u32], graph: &[u32], call: u32, fault: u32) {
             word(shares, slot(BEFORE_ENTRIES, count)),
         ),
         3 => append(shares, count, word(graph, GRAPH_CAPACITY), first, call),
-        4 => lower(shares, worker_place(call, past(count, 1))),
+        4 => {
+            let last = worker_place(call, past(count, 1));
+            put(shares, last, past(word(shares, last), 1));
+        }
         5 => put(shares, SHARES_ENTRIES, inactive_id(graph, call)),
         _ => {}
     }
@@ -149,12 +102,9 @@ fn spoil(shares: &mut [u32], graph: &[u32], call: u32) {
 
 pub fn fill_shares(shares: &mut [u32], graph: &[u32], call: u32) {
     let count = listed(graph);
-    fill_any(
-        shares,
-        slot(SHARES_ENTRIES, word(graph, GRAPH_CAPACITY)),
-        call,
-    );
-    fill_ids(shares, graph, count);
+    let length = slot(SHARES_ENTRIES, word(graph, GRAPH_CAPACITY));
+    fill(shares, 0, length, |i| choice(call, slot(600, i)));
+    fill(shares, SHARES_ENTRIES, count, |q| listed_id(graph, q));
     shuffle(shares, count, call);
     fill_counts(shares, count, call);
     spoil(shares, graph, call);

@@ -1,25 +1,25 @@
 -- Hexadecimal digits and words at a place of a text. Assumes nothing.
-use Rattle.std.specs.Prelude.{◌≡◌, refl, ℕ, zero, suc, ◌+◌, ◌-◌, ◌*◌, ◌^◌, ◌≤◌, ◌<◌, Bool, true, false, ◌&&◌, ◌⊎◌, leb, List, [], ◌∷◌, length, get_or, drop}
+use Rattle.std.specs.Prelude.{◌≡◌, refl, ℕ, zero, suc, ◌+◌, ◌-◌, ◌*◌, ◌^◌, ◌≤◌, ◌<◌, Bool, true, false, ◌&&◌, ◌⊎◌, leb, List, [], ◌∷◌, length, get_or, drop, Option, None, Some}
+use Rattle.std.specs.Char.{digit_value}
+use Rattle.std.specs.Option.{SomeIff}
 use Rattle.std.proofs.Common.{sym, ap, ap₂, ◌∙◌, pow-suc, not-suc-le-zero, add-zero, add-one, arith, inl, inr, le-leb, drop_of_length-le, drop-cons}
 use Rattle.std.proofs.Math.Nat.{pow-le-pow_right}
 use Rattle.std.proofs.Math.Numerals.{unary_clauses}
-use Rattle.std.proofs.Math.Option.{none, some}
 use Rattle.std.proofs.lemmas.Bool.{lt-leb}
-use Rattle.text.specs.declared.reader.Word.TheVariants.{Is, NoWord}
 use Rattle.text.specs.Text.{after, within, hex_digit, digits, word}
-use Rattle.text.specs.Answers.{WordRead}
+use Rattle.text.specs.Answers.{HexDigitRead, WordRead}
 
 -- ---- a digit
 
-pub decimal_digit : (b : ℕ) → 48 ≤ b → b ≤ 57 → hex_digit b ≡ some (b - 48)
+pub decimal_digit : (b : ℕ) → 48 ≤ b → b ≤ 57 → hex_digit b ≡ Some (b - 48)
 unfolding hex_digit
 decimal_digit b h l = simp (le-leb 48 b h, le-leb b 57 l)
 
-pub upper_digit : (b : ℕ) → 65 ≤ b → b ≤ 70 → hex_digit b ≡ some (b - 65 + 10)
+pub upper_digit : (b : ℕ) → 65 ≤ b → b ≤ 70 → hex_digit b ≡ Some (b - 65 + 10)
 unfolding hex_digit
 upper_digit b h l = simp (lt-leb b 57 (omega arith), le-leb 48 b (omega arith), le-leb 65 b h, le-leb b 70 l)
 
-pub lower_digit : (b : ℕ) → 97 ≤ b → b ≤ 102 → hex_digit b ≡ some (b - 97 + 10)
+pub lower_digit : (b : ℕ) → 97 ≤ b → b ≤ 102 → hex_digit b ≡ Some (b - 97 + 10)
 unfolding hex_digit
 lower_digit b h l = simp (lt-leb b 57 (omega arith), le-leb 48 b (omega arith), lt-leb b 70 (omega arith), le-leb 65 b (omega arith), le-leb 97 b h, le-leb b 102 l)
 
@@ -27,7 +27,7 @@ lower_digit b h l = simp (lt-leb b 57 (omega arith), le-leb 48 b (omega arith), 
 pub either_case : (b : ℕ) → 65 ≤ b → b ≤ 70 → hex_digit (b + 32) ≡ hex_digit b
 either_case b h l =
     let e : b + 32 - 97 + 10 ≡ b - 65 + 10 = omega arith in
-    lower_digit (b + 32) (omega arith) (omega arith) ∙ ap some e ∙ sym (upper_digit b h l)
+    lower_digit (b + 32) (omega arith) (omega arith) ∙ ap Some e ∙ sym (upper_digit b h l)
 
 -- b lies outside low to high
 abbrev pub Outside : ℕ → ℕ → ℕ → Type 0
@@ -41,9 +41,22 @@ outside_within low high b (inr h) = rw (lt-leb b high h) (and_false (leb low b))
     and_false true = refl
     and_false false = refl
 
-pub no_digit : (b : ℕ) → Outside 48 57 b → Outside 65 70 b → Outside 97 102 b → hex_digit b ≡ none
+pub no_digit : (b : ℕ) → Outside 48 57 b → Outside 65 70 b → Outside 97 102 b → hex_digit b ≡ None
 unfolding hex_digit
 no_digit b p q r = simp (outside_within 48 57 b p, outside_within 65 70 b q, outside_within 97 102 b r)
+
+-- std's digits below 16 are the hexadecimal ones
+hex_ranges : (b : ℕ) → digit_value b < 16 → ((48 ≤ b) × (b ≤ 57)) ⊎ (((65 ≤ b) × (b ≤ 70)) ⊎ ((97 ≤ b) × (b ≤ 102)))
+hex_ranges b h = grind arith
+
+hex_value : (b : ℕ) → ((48 ≤ b) × (b ≤ 57)) ⊎ (((65 ≤ b) × (b ≤ 70)) ⊎ ((97 ≤ b) × (b ≤ 102))) → hex_digit b ≡ Some (digit_value b)
+hex_value b (inl h) = decimal_digit b h.0 h.1 ∙ ap Some (grind arith)
+hex_value b (inr (inl h)) = upper_digit b h.0 h.1 ∙ ap Some (grind arith)
+hex_value b (inr (inr h)) = lower_digit b h.0 h.1 ∙ ap Some (grind arith)
+
+pub hex_digit_read : (b : ℕ) (r : Option ℕ) → SomeIff r (digit_value b < 16) (digit_value b) → HexDigitRead b r
+hex_digit_read b None h = record { value = no_digit b (grind arith) (grind arith) (grind arith); small = tt }
+hex_digit_read b (Some d) h = record { value = hex_value b (hex_ranges b h.0) ∙ ap Some (sym h.1); small = omega (arith, h.0, h.1) }
 
 -- ---- a word: k digits of it are read, and make v
 
@@ -58,19 +71,19 @@ unfolding word
 word_begins xs at h =
     record { some_left = omega arith; inside = omega (arith, h); small = omega arith; read = ap (λ (n : ℕ). digits 8 0 (drop n xs)) (sym (add-zero at)) }
 
-no_word : (xs : List ℕ) (at : ℕ) → word (drop at xs) ≡ none → WordRead xs at NoWord
+no_word : (xs : List ℕ) (at : ℕ) → word (drop at xs) ≡ None → WordRead xs at None
 no_word xs at e = record { read = e; inside = tt }
 
-none_left : (n v : ℕ) → 0 < n → digits n v [] ≡ none
+none_left : (n v : ℕ) → 0 < n → digits n v [] ≡ None
 unfolding digits
 none_left zero v p = absurd (not-suc-le-zero p)
 none_left (suc n) v p = refl
 
-pub word_past : (xs : List ℕ) (at : ℕ) → length xs ≤ at → WordRead xs at NoWord
+pub word_past : (xs : List ℕ) (at : ℕ) → length xs ≤ at → WordRead xs at None
 unfolding word
 word_past xs at h = no_word xs at (rw (drop_of_length-le xs h) (none_left 8 0 (omega arith)))
 
-pub word_short : (xs : List ℕ) (at k v : ℕ) → WordTo xs at k v → k < 8 → length xs ≤ at + k → WordRead xs at NoWord
+pub word_short : (xs : List ℕ) (at k v : ℕ) → WordTo xs at k v → k < 8 → length xs ≤ at + k → WordRead xs at None
 word_short xs at k v w h l = no_word xs at (w.read ∙ rw (drop_of_length-le xs l) (none_left (8 - k) v (omega arith)))
 
 digits_cons : (n v x : ℕ) (xs : List ℕ) → 0 < n → digits n v (x ∷ xs) ≡ after (hex_digit x) (λ d. digits (n - 1) (v * 16 + d) xs)
@@ -86,10 +99,10 @@ word_digit xs at k v w h l =
     w.read ∙ ap (digits (8 - k) v) (drop-cons xs (at + k) 0 l) ∙ digits_cons (8 - k) v (get_or xs (at + k) 0) (drop (suc (at + k)) xs) (omega arith)
     ∙ ap₂ (λ (n m : ℕ). after (hex_digit (get_or xs (at + k) 0)) (λ d. digits n (v * 16 + d) (drop m xs))) e f
 
-pub word_bad : (xs : List ℕ) (at k v : ℕ) → WordTo xs at k v → k < 8 → at + k < length xs → hex_digit (get_or xs (at + k) 0) ≡ none → WordRead xs at NoWord
+pub word_bad : (xs : List ℕ) (at k v : ℕ) → WordTo xs at k v → k < 8 → at + k < length xs → hex_digit (get_or xs (at + k) 0) ≡ None → WordRead xs at None
 word_bad xs at k v w h l e = no_word xs at (word_digit xs at k v w h l ∙ rw e)
 
-pub word_next : (xs : List ℕ) (at k v d : ℕ) → WordTo xs at k v → k < 8 → at + k < length xs → hex_digit (get_or xs (at + k) 0) ≡ some d → d < 16
+pub word_next : (xs : List ℕ) (at k v d : ℕ) → WordTo xs at k v → k < 8 → at + k < length xs → hex_digit (get_or xs (at + k) 0) ≡ Some d → d < 16
     → WordTo xs at (k + 1) (v * 16 + d)
 word_next xs at k v d w h l e s =
     let p : 16 ^ (k + 1) ≡ 16 ^ k * 16 = ap (λ (n : ℕ). 16 ^ n) (add-one k) ∙ pow-suc 16 k in
@@ -101,8 +114,12 @@ word_fits xs at k v w h =
     let p : 16 ^ k ≤ 16 ^ 7 = pow-le-pow_right (omega arith) {i = k} {j = 7} (omega arith) in
     omega (arith, w.small)
 
-pub word_whole : (xs : List ℕ) (at k v : ℕ) → WordTo xs at k v → 8 ≤ k → WordRead xs at (Is v)
+pub word_whole : (xs : List ℕ) (at k v : ℕ) → WordTo xs at k v → 8 ≤ k → WordRead xs at (Some v)
 unfolding digits
 word_whole xs at k v w h =
     let e : k ≡ 8 = omega (arith, h, w.some_left) in
     record { read = w.read ∙ ap (λ (n : ℕ). digits (8 - n) v (drop (at + n) xs)) e; inside = omega (arith, h, w.inside) }
+
+-- ---- for the search
+
+pub ruleset word_laws = (word_past, word_begins, word_fits, word_whole)

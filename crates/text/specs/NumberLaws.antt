@@ -1,9 +1,7 @@
 -- A decimal number at a place of a text. Assumes nothing.
-use Rattle.std.specs.Prelude.{◌≡◌, refl, ℕ, suc, ◌+◌, ◌-◌, ◌*◌, ◌≤◌, ◌<◌, Bool, true, false, cond, not, List, [], ◌∷◌, leb, eqb, length, get_or, drop}
+use Rattle.std.specs.Prelude.{◌≡◌, refl, ℕ, suc, ◌+◌, ◌-◌, ◌*◌, ◌≤◌, ◌<◌, Bool, true, false, cond, not, List, [], ◌∷◌, leb, eqb, length, get_or, drop, None, Some}
 use Rattle.std.proofs.Common.{sym, ap, ap₂, ◌∙◌, add-one, arith, le-leb, eq-eqb, ne_eqb, drop_of_length-le, drop-cons}
-use Rattle.std.proofs.Math.Option.{none, some}
 use Rattle.std.proofs.lemmas.Bool.{eqb-false}
-use Rattle.text.specs.declared.reader.Number.TheVariants.{Value, NoNumber}
 use Rattle.text.specs.Text.{within, largest_number, decimal_from, decimal}
 use Rattle.text.specs.Answers.{ended_at, taken_number, NumberInside, NumberRead}
 
@@ -31,15 +29,15 @@ step_digit : (any : Bool) (v x : ℕ) (xs : List ℕ) → within 48 57 x ≡ tru
 unfolding decimal_from
 step_digit any v x xs w l = rw (w, l)
 
-step_large : (any : Bool) (v x : ℕ) (xs : List ℕ) → within 48 57 x ≡ true → leb (v * 10 + (x - 48)) largest_number ≡ false → decimal_from any v (x ∷ xs) ≡ none
+step_large : (any : Bool) (v x : ℕ) (xs : List ℕ) → within 48 57 x ≡ true → leb (v * 10 + (x - 48)) largest_number ≡ false → decimal_from any v (x ∷ xs) ≡ None
 unfolding decimal_from
 step_large any v x xs w l = rw (w, l)
 
-step_end : (any : Bool) (v x : ℕ) (xs : List ℕ) → within 48 57 x ≡ false → decimal_from any v (x ∷ xs) ≡ cond any (some (record { value = v; rest = x ∷ xs })) none
+step_end : (any : Bool) (v x : ℕ) (xs : List ℕ) → within 48 57 x ≡ false → decimal_from any v (x ∷ xs) ≡ cond any (Some (record { value = v; rest = x ∷ xs })) None
 unfolding decimal_from
 step_end any v x xs w = rw w
 
-text_end : (any : Bool) (v : ℕ) → decimal_from any v [] ≡ cond any (some (record { value = v; rest = [] })) none
+text_end : (any : Bool) (v : ℕ) → decimal_from any v [] ≡ cond any (Some (record { value = v; rest = [] })) None
 unfolding decimal_from
 text_end any v = refl
 
@@ -58,7 +56,7 @@ number_next xs at i v d n t h w e l q =
     }
 
 pub number_large : (xs : List ℕ) (at i v d : ℕ) → NumberTo xs at i v → i < length xs → within 48 57 (get_or xs i 0) ≡ true → d ≡ get_or xs i 0 - 48
-    → leb (v * 10 + d) largest_number ≡ false → NumberRead xs at NoNumber
+    → leb (v * 10 + d) largest_number ≡ false → NumberRead xs at None
 number_large xs at i v d t h w e l =
     record {
       read =
@@ -67,14 +65,14 @@ number_large xs at i v d t h w e l =
       inside = tt;
     }
 
-ended_taken : (b : Bool) (v i : ℕ) (xs : List ℕ) → cond (not b) (some (record { value = v; rest = drop i xs })) none ≡ taken_number (cond b NoNumber (Value v i)) xs
+ended_taken : (b : Bool) (v i : ℕ) (xs : List ℕ) → cond (not b) (Some (record { value = v; rest = drop i xs })) None ≡ taken_number (cond b None (Some (record { value = v; next = i }))) xs
 ended_taken true v i xs = refl
 ended_taken false v i xs = refl
 
 ended_inside : (xs : List ℕ) (at i v : ℕ) → Before xs at i → NumberInside xs at (ended_at at i v)
 ended_inside xs at i v p = within_text (eqb i at) (eqb-false i at)
   where
-    within_text : (b : Bool) → (b ≡ false → i ≡ at → ⊥) → NumberInside xs at (cond b NoNumber (Value v i))
+    within_text : (b : Bool) → (b ≡ false → i ≡ at → ⊥) → NumberInside xs at (cond b None (Some (record { value = v; next = i })))
     within_text true f = tt
     within_text false f = p (f refl)
 
@@ -83,7 +81,7 @@ number_stops xs at i v t h w =
     record {
       read =
           t.read ∙ ap (decimal_from (not (eqb i at)) v) (drop-cons xs i 0 h) ∙ step_end (not (eqb i at)) v (get_or xs i 0) (drop (suc i) xs) w
-          ∙ ap (λ (r : List ℕ). cond (not (eqb i at)) (some (record { value = v; rest = r })) none) (sym (drop-cons xs i 0 h))
+          ∙ ap (λ (r : List ℕ). cond (not (eqb i at)) (Some (record { value = v; rest = r })) None) (sym (drop-cons xs i 0 h))
           ∙ ended_taken (eqb i at) v i xs;
       inside = ended_inside xs at i v t.inside;
     }
@@ -93,7 +91,7 @@ number_at_end xs at i v t h =
     record {
       read =
           t.read ∙ ap (decimal_from (not (eqb i at)) v) (drop_of_length-le xs h) ∙ text_end (not (eqb i at)) v
-          ∙ ap (λ (r : List ℕ). cond (not (eqb i at)) (some (record { value = v; rest = r })) none) (sym (drop_of_length-le xs h))
+          ∙ ap (λ (r : List ℕ). cond (not (eqb i at)) (Some (record { value = v; rest = r })) None) (sym (drop_of_length-le xs h))
           ∙ ended_taken (eqb i at) v i xs;
       inside = ended_inside xs at i v t.inside;
     }

@@ -1,6 +1,5 @@
--- Words and numbers at the front of a text. A text is its bytes; whatever is not of the form reads to `none`. Definitions only.
-use Rattle.std.specs.Prelude.{ℕ, zero, suc, ◌+◌, ◌-◌, ◌*◌, ◌/◌, ◌%◌, ◌^◌, ◌≡◌, Bool, true, false, cond, ◌&&◌, List, [], ◌∷◌, leb, eqb, ltb, length}
-use Rattle.std.proofs.Math.Option.{Option, none, some}
+-- Words and numbers at the front of a text. A text is its bytes; whatever is not of the form reads to `None`. Definitions only.
+use Rattle.std.specs.Prelude.{ℕ, zero, suc, ◌+◌, ◌-◌, ◌*◌, ◌/◌, ◌%◌, ◌^◌, ◌≡◌, Bool, true, false, cond, ◌&&◌, List, [], ◌∷◌, leb, eqb, ltb, length, Option, None, Some}
 use Rattle.rows.specs.Rows.{put}
 
 -- what was read off the front of a text, and what is left of it
@@ -10,13 +9,13 @@ pub record Taken (A : Type 0) : Type 0 where
 
 -- one reading after another: none where either is
 abbrev pub after : {A B : Type 0} → Option A → (A → Option B) → Option B
-after none f = none
-after (some a) f = f a
+after None f = None
+after (Some a) f = f a
 
 -- the first byte is b, and what follows is read by f
 unfoldable pub expect : {A : Type 0} → ℕ → (List ℕ → Option A) → List ℕ → Option A
-expect b f [] = none
-expect b f (x ∷ xs) = cond (eqb x b) (f xs) none
+expect b f [] = None
+expect b f (x ∷ xs) = cond (eqb x b) (f xs) None
 
 abbrev pub within : ℕ → ℕ → ℕ → Bool
 within low high b = leb low b && leb b high
@@ -32,12 +31,12 @@ line_feed = 10
 
 -- the value of 0 to 9, A to F, a to f
 unfoldable pub hex_digit : ℕ → Option ℕ
-hex_digit b = cond (within 48 57 b) (some (b - 48)) (cond (within 65 70 b) (some (b - 65 + 10)) (cond (within 97 102 b) (some (b - 97 + 10)) none))
+hex_digit b = cond (within 48 57 b) (Some (b - 48)) (cond (within 65 70 b) (Some (b - 65 + 10)) (cond (within 97 102 b) (Some (b - 97 + 10)) None))
 
 -- n more digits of a number whose digits up to here make v
 unfoldable pub digits : ℕ → ℕ → List ℕ → Option (Taken ℕ)
-digits zero v xs = some (record { value = v; rest = xs })
-digits (suc n) v [] = none
+digits zero v xs = Some (record { value = v; rest = xs })
+digits (suc n) v [] = None
 digits (suc n) v (x ∷ xs) = after (hex_digit x) (λ d. digits n (v * 16 + d) xs)
 
 -- eight digits
@@ -51,11 +50,11 @@ largest_number = 4294967295
 
 -- all digits that follow, of a number whose digits up to here, if any, make v; none where there is none, or where the value is too large
 unfoldable pub decimal_from : Bool → ℕ → List ℕ → Option (Taken ℕ)
-decimal_from any v [] = cond any (some (record { value = v; rest = [] })) none
+decimal_from any v [] = cond any (Some (record { value = v; rest = [] })) None
 decimal_from any v (x ∷ xs) =
     cond (within 48 57 x)
-    (cond (leb (v * 10 + (x - 48)) largest_number) (decimal_from true (v * 10 + (x - 48)) xs) none)
-    (cond any (some (record { value = v; rest = x ∷ xs })) none)
+    (cond (leb (v * 10 + (x - 48)) largest_number) (decimal_from true (v * 10 + (x - 48)) xs) None)
+    (cond any (Some (record { value = v; rest = x ∷ xs })) None)
 
 unfoldable pub decimal : List ℕ → Option (Taken ℕ)
 decimal xs = decimal_from false 0 xs

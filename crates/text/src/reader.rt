@@ -1,105 +1,71 @@
 // Words and numbers of a text, by their place. A place past the end is taken: nothing is read there.
-ghost use Rattle.std.specs.Prelude.{◌≡◌, ◌<◌};
-ghost use Rattle.text.specs.Answers.{HexDigitRead, WordRead, DigitRead, NextValue, ended_at, NumberRead};
+ghost use Rattle.std.specs.Prelude.{◌<◌};
+ghost use Rattle.text.specs.Answers.{ByteIs, HexDigitRead, WordRead, DigitRead, NextValue, NumberRead};
 
-#[derive(Clone, Copy)]
-pub enum Word {
-    Is(u32),
-    NoWord,
+// Whether the byte stands there; past the end none does.
+pub fn byte_is(text: &[u8], at: usize, b: u8) -> bool
+    ensures { ByteIs text.now at b result }
+{
+    text.get(at) == Some(&b)
 }
 
 // The value of a hexadecimal digit of either case.
-fn hex_digit(b: u8) -> Word
+fn hex_digit(b: u8) -> Option<u32>
     ensures { HexDigitRead b result }
 {
-    match b {
-        b'0'..=b'9' => Word::Is(b as u32 - 48),
-        b'A'..=b'F' => Word::Is(b as u32 - 65 + 10),
-        b'a'..=b'f' => Word::Is(b as u32 - 97 + 10),
-        _ => Word::NoWord,
-    }
+    char::from(b).to_digit(16)
 }
 
 // Eight digits.
-pub fn read_word(text: &[u8], at: usize) -> Word
+#[tactic(auto, using(crate::proofs::WordLaws::word_laws))]
+pub fn read_word(text: &[u8], at: usize) -> Option<u32>
     ensures { WordRead text.now at result }
 {
     if at >= text.len() {
-        return Word::NoWord;
+        return None;
     }
-    let mut value: u32 = 0;
-    let mut k = 0;
-    while k < 8 {
-        let i = at + k;
-        if i >= text.len() {
-            return Word::NoWord;
-        }
-        let digit = hex_digit(text[i]);
-        let Word::Is(d) = digit else {
-            return Word::NoWord;
-        };
-        value = value * 16 + d;
-        k += 1;
+    let mut value = 0;
+    for k in 0..8 {
+        let b = *text.get(at + k)?;
+        value = value * 16 + hex_digit(b)?;
     }
-    Word::Is(value)
+    Some(value)
 }
 
 // A number's value and the place after its last digit.
 #[derive(Clone, Copy)]
-pub enum Number {
-    Value(u32, usize),
-    NoNumber,
+pub struct Number {
+    pub value: u32,
+    pub next: usize,
 }
 
 // The value of a decimal digit.
-fn decimal_digit(b: u8) -> Word
+fn decimal_digit(b: u8) -> Option<u32>
     ensures { DigitRead b result }
 {
-    match b {
-        b'0'..=b'9' => Word::Is(b as u32 - 48),
-        _ => Word::NoWord,
-    }
+    char::from(b).to_digit(10)
 }
 
 // The value with one digit more, if it is still a number of 32 bits.
-fn next_value(v: u32, d: u32) -> Word
+fn next_value(v: u32, d: u32) -> Option<u32>
     requires { d < 10 }
     ensures { NextValue v d result }
 {
-    let wide = v as u64 * 10 + d as u64;
-    if wide > 4294967295 {
-        return Word::NoWord;
-    }
-    Word::Is(wide as u32)
-}
-
-// The number ended at i, if a digit stands before it.
-fn ended(at: usize, i: usize, v: u32) -> Number
-    ensures { result ≡ ended_at at i v }
-{
-    if i == at {
-        return Number::NoNumber;
-    }
-    Number::Value(v, i)
+    v.checked_mul(10)?.checked_add(d)
 }
 
 // All digits from a place on, as far as they go.
-pub fn read_decimal(text: &[u8], at: usize) -> Number
+pub fn read_decimal(text: &[u8], at: usize) -> Option<Number>
     ensures { NumberRead text.now at result }
 {
-    let mut v: u32 = 0;
-    let mut i = at;
-    while i < text.len() {
-        let digit = decimal_digit(text[i]);
-        let Word::Is(d) = digit else {
-            return ended(at, i, v);
+    let mut value = 0;
+    let mut number = None;
+    for i in at..text.len() {
+        let Some(d) = decimal_digit(text[i]) else {
+            return number;
         };
-        let next = next_value(v, d);
-        let Word::Is(n) = next else {
-            return Number::NoNumber;
-        };
-        v = n;
-        i += 1;
+        value = next_value(value, d)?;
+        number = Some(Number { value, next: i + 1 });
     }
-    ended(at, i, v)
+    number
 }

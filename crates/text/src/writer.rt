@@ -1,5 +1,5 @@
 // Bytes and numbers written into a row from a place on. What is past the row's end is dropped. The result is the place after them.
-ghost use Rattle.std.specs.Prelude.{◌≡◌, [], ◌∷◌, ◌+◌, ◌≤◌, ◌<◌, length, drop};
+ghost use Rattle.std.specs.Prelude.{[], ◌∷◌, ◌+◌, ◌<◌, length};
 ghost use Rattle.text.specs.Text.{decimal_text, last_place, Written};
 ghost use Rattle.text.specs.Spelled.{Spelled};
 
@@ -7,10 +7,9 @@ pub fn write_byte(out: &mut [u8], at: usize, b: u8) -> usize
     requires { at < last_place }
     ensures { Written out.old at (b ∷ []) out.new result }
 {
-    if at >= out.len() {
-        return at + 1;
+    if at < out.len() {
+        out[at] = b;
     }
-    out[at] = b;
     at + 1
 }
 
@@ -19,27 +18,24 @@ pub fn write_bytes(out: &mut [u8], at: usize, bytes: &[u8]) -> usize
     ensures { Written out.old at bytes.now out.new result }
 {
     let mut next = at;
-    let mut k = 0;
-    while k < bytes.len() {
-        next = write_byte(out, next, bytes[k]);
-        k += 1;
+    for b in bytes {
+        next = write_byte(out, next, *b);
     }
     next
 }
 
-// The digits of a number, last of all in a row of ten: the place of the first.
-fn spell(n: u32, row: &mut [u8]) -> usize
-    requires { length row.old ≡ 10 }
+// The digits of a number, last of all in a row of ten: the place of the first. Spelled by hand, since std prints into a formatter and no other crate is used.
+fn spell(n: u32, row: &mut [u8; 10]) -> usize
     ensures { Spelled n row.new result }
 {
     let mut i = 9;
     let mut rest = n;
     while rest > 9 {
-        row[i] = 48 + (rest % 10) as u8;
+        row[i] = b'0' + (rest % 10) as u8;
         rest /= 10;
         i -= 1;
     }
-    row[i] = 48 + rest as u8;
+    row[i] = b'0' + rest as u8;
     i
 }
 

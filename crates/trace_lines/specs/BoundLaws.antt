@@ -1,7 +1,6 @@
 -- A line's words are below 2 ^ 32. Assumes nothing.
-use Rattle.std.specs.Prelude.{◌≡◌, ℕ, zero, suc, ◌<◌, List, [], ◌∷◌, ◌++◌}
+use Rattle.std.specs.Prelude.{◌≡◌, ℕ, zero, suc, ◌<◌, List, [], ◌∷◌, ◌++◌, Option, None, Some}
 use Rattle.std.proofs.Common.{subst, not-suc-le-zero, le_of_suc-le-suc, arith}
-use Rattle.std.proofs.Math.Option.{Option, none, some}
 use Rattle.rows.specs.Slots.{AllBelow}
 use Rattle.text.specs.Text.{Taken, after, expect, line_feed, word, decimal}
 use Rattle.text.proofs.BoundLaws.{Under, under_expect, word_under, decimal_under}
@@ -31,12 +30,12 @@ words_below (w ∷ ws) u zero h = u.0
 words_below (w ∷ ws) u (suc k) h = words_below ws u.1 k (le_of_suc-le-suc h)
 
 abbrev Read : Option (Taken Fields) → Type 0
-Read none = Unit {0}
-Read (some t) = Words t.value.words
+Read None = Unit {0}
+Read (Some t) = Words t.value.words
 
 joined_read : (a : Fields) (o : Option (Taken Fields)) → Words a.words → Read o → Read (after o (joined_taken a))
-joined_read a none u r = tt
-joined_read a (some t) u r = words_append a.words t.value.words u r
+joined_read a None u r = tt
+joined_read a (Some t) u r = words_append a.words t.value.words u r
 
 kinds_read : (ks : List Kind) (xs : List ℕ) → Read (read_kinds ks xs)
 unfolding read_kinds
@@ -44,8 +43,8 @@ kinds_read [] xs = tt
 kinds_read (k ∷ ks) xs = first_read (read_kind k xs) (kind_under k xs) (kinds_read ks)
   where
     first_read : (o : Option (Taken ℕ)) → Under 4294967296 o → ((ys : List ℕ) → Read (read_kinds ks ys)) → Read (after o (λ v. after (read_kinds ks v.rest) (joined_taken (one_field k v.value))))
-    first_read none u h = tt
-    first_read (some v) u h = joined_read (one_field k v.value) (read_kinds ks v.rest) (u, tt) (h v.rest)
+    first_read None u h = tt
+    first_read (Some v) u h = joined_read (one_field k v.value) (read_kinds ks v.rest) (u, tt) (h v.rest)
 
 zeros_words : (ks : List Kind) → Words (zeros_for ks)
 unfolding zeros_for
@@ -53,8 +52,8 @@ zeros_words [] = tt
 zeros_words (k ∷ ks) = (omega arith, zeros_words ks)
 
 default_read : (default : Fields) (d : Option (List ℕ)) (o : Option (Taken Fields)) → Words default.words → Read o → Read (default_or default d o)
-default_read default none o u r = r
-default_read default (some rest) o u r = u
+default_read default None o u r = r
+default_read default (Some rest) o u r = u
 
 dash_read_lem : (default : Fields) (ks : List Kind) (xs : List ℕ) → Words default.words → Read (dash_or default ks xs)
 dash_read_lem default ks xs u =
@@ -74,31 +73,31 @@ items_read [] xs = tt
 items_read (i ∷ is) xs = first_read (read_item i xs) (item_read i xs) (items_read is)
   where
     first_read : (o : Option (Taken Fields)) → Read o → ((ys : List ℕ) → Read (read_items is ys)) → Read (after o (λ t. after (read_items is t.rest) (joined_taken t.value)))
-    first_read none r h = tt
-    first_read (some t) r h = joined_read t.value (read_items is t.rest) r (h t.rest)
+    first_read None r h = tt
+    first_read (Some t) r h = joined_read t.value (read_items is t.rest) r (h t.rest)
 
 abbrev LineWords : Option (Taken Line) → Type 0
-LineWords none = Unit {0}
-LineWords (some t) = Words t.value.words
+LineWords None = Unit {0}
+LineWords (Some t) = Words t.value.words
 
 line_words : (xs : List ℕ) → LineWords (read_line xs)
 unfolding read_line
 line_words [] = tt
 line_words (l ∷ xs) = shaped (shape l)
   where
-    ended : (t : Fields) (o : Option (List ℕ)) → Words t.words → LineWords (after o (λ rest. some (record { value = record { letter = l; words = t.words; fits = t.fits }; rest = rest })))
-    ended t none r = tt
-    ended t (some rest) r = r
+    ended : (t : Fields) (o : Option (List ℕ)) → Words t.words → LineWords (after o (λ rest. Some (record { value = record { letter = l; words = t.words; fits = t.fits }; rest = rest })))
+    ended t None r = tt
+    ended t (Some rest) r = r
 
     read : (o : Option (Taken Fields)) → Read o
-        → LineWords (after o (λ t. after (expect line_feed some t.rest) (λ rest. some (record { value = record { letter = l; words = t.value.words; fits = t.value.fits }; rest = rest }))))
-    read none r = tt
-    read (some t) r = ended t.value (expect line_feed some t.rest) r
+        → LineWords (after o (λ t. after (expect line_feed Some t.rest) (λ rest. Some (record { value = record { letter = l; words = t.value.words; fits = t.value.fits }; rest = rest }))))
+    read None r = tt
+    read (Some t) r = ended t.value (expect line_feed Some t.rest) r
 
     shaped : (o : Option (List Item))
-        → LineWords (after o (λ is. after (read_items is xs) (λ t. after (expect line_feed some t.rest) (λ rest. some (record { value = record { letter = l; words = t.value.words; fits = t.value.fits }; rest = rest })))))
-    shaped none = tt
-    shaped (some is) = read (read_items is xs) (items_read is xs)
+        → LineWords (after o (λ is. after (read_items is xs) (λ t. after (expect line_feed Some t.rest) (λ rest. Some (record { value = record { letter = l; words = t.value.words; fits = t.value.fits }; rest = rest })))))
+    shaped None = tt
+    shaped (Some is) = read (read_items is xs) (items_read is xs)
 
-pub line_below : (xs : List ℕ) (t : Taken Line) → read_line xs ≡ some t → AllBelow 4294967296 t.value.words
+pub line_below : (xs : List ℕ) (t : Taken Line) → read_line xs ≡ Some t → AllBelow 4294967296 t.value.words
 line_below xs t e = words_below t.value.words (subst LineWords e (line_words xs))

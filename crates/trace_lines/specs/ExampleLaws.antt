@@ -1,6 +1,5 @@
 -- Lines and what they read to: one of each record, what may differ, and what is unreadable. Assumes nothing.
-use Rattle.std.specs.Prelude.{◌≡◌, refl, ℕ, Bool, true, false, List, [], ◌∷◌, ◌++◌, map, take}
-use Rattle.std.proofs.Math.Option.{Option, none, some}
+use Rattle.std.specs.Prelude.{◌≡◌, refl, ℕ, Bool, true, false, List, [], ◌∷◌, ◌++◌, map, take, Option, None, Some}
 use Rattle.text.specs.Text.{Taken, expect, hex_digit, digits, word, decimal_from, decimal}
 use Rattle.trace_rules.specs.Fields.{kind_fits, read_kind, read_kinds, zeros_for, dash_read, end_read, read_item, read_items, shape, Line, read_line}
 
@@ -37,7 +36,7 @@ feed = 10 ∷ []
 
 -- a line that was read to its end
 abbrev whole : ℕ → List ℕ → Bool → Option (Taken Line)
-whole letter words fits = some (record { value = record { letter = letter; words = words; fits = fits }; rest = [] })
+whole letter words fits = Some (record { value = record { letter = letter; words = words; fits = fits }; rest = [] })
 
 -- ---- one of each record
 
@@ -101,7 +100,7 @@ unfolding expect hex_digit digits word decimal_from decimal kind_fits read_kind 
 point_line_lem = refl
 
 -- what stands after the line is left
-pub go_line : read_line (71 ∷ 10 ∷ 71 ∷ 10 ∷ []) ≡ some (record { value = record { letter = 71; words = []; fits = true }; rest = 71 ∷ 10 ∷ [] })
+pub go_line : read_line (71 ∷ 10 ∷ 71 ∷ 10 ∷ []) ≡ Some (record { value = record { letter = 71; words = []; fits = true }; rest = 71 ∷ 10 ∷ [] })
 unfolding expect hex_digit digits word decimal_from decimal kind_fits read_kind read_kinds zeros_for dash_read read_item read_items shape read_line
 go_line = refl
 
@@ -114,10 +113,10 @@ outside =
     ∷ (fixed ++ 9 ∷ 50 ∷ feed) ∷ (fixed ++ 9 ∷ 48 ∷ 48 ∷ 55 ∷ feed) ∷ (fixed ++ largest ++ feed) ∷ []
 
 abbrev fits_of : Option (Taken Line) → Option Bool
-fits_of none = none
-fits_of (some t) = some t.value.fits
+fits_of None = None
+fits_of (Some t) = Some t.value.fits
 
-pub outside_lines : map (λ xs. fits_of (read_line xs)) outside ≡ map (λ xs. some false) outside
+pub outside_lines : map (λ xs. fits_of (read_line xs)) outside ≡ map (λ xs. Some false) outside
 unfolding outside expect hex_digit digits word decimal_from decimal kind_fits read_kind read_kinds zeros_for dash_read end_read read_item read_items shape read_line
 outside_lines = refl
 
@@ -140,6 +139,6 @@ unreadable =
     ∷ (fixed ++ 9 ∷ feed) ∷ (fixed ++ n0 ++ 9 ∷ feed) ∷ (fixed ++ d ++ 9 ∷ feed) ∷ (fixed ++ d ++ d ++ feed) ∷ (fixed ++ too_large ++ feed)
     ∷ (fixed ++ d ++ 49 ∷ feed) ∷ fixed ∷ (fixed ++ d) ∷ []
 
-pub unreadable_lines : map read_line unreadable ≡ map (λ xs. none) unreadable
+pub unreadable_lines : map read_line unreadable ≡ map (λ xs. None) unreadable
 unfolding unreadable expect hex_digit digits word decimal_from decimal kind_fits read_kind read_kinds zeros_for dash_read end_read read_item read_items shape read_line
 unreadable_lines = refl

@@ -1,6 +1,6 @@
 -- A trace's lines read by their place: the promise, the table of shapes, and laws.
 pub mod Promises
-pub mod Codes
+pub mod Items
 pub mod Widths
 pub mod Answers
 pub mod FieldLaws

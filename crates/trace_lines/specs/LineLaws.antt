@@ -1,23 +1,27 @@
 -- Items in turn, and a whole line. Assumes nothing.
-use Rattle.std.specs.Prelude.{◌≡◌, refl, ℕ, suc, ◌+◌, ◌-◌, ◌*◌, ◌≤◌, ◌<◌, Bool, true, false, ◌&&◌, length, get_or}
+use Rattle.std.specs.Prelude.{◌≡◌, refl, ℕ, ◌+◌, ◌≤◌, ◌<◌, Bool, true, false, ◌&&◌, length, get_or, Option, None, Some}
 use Rattle.std.proofs.Math.Path.{sym, ap, ap₂}
-use Rattle.std.proofs.Common.{◌∙◌, zero-add, add-one, length-append, drop_of_length-le, drop-cons}
+use Rattle.std.proofs.Common.{subst, ◌∙◌, zero-add, add-one, length-append, length-take, drop_of_length-le, drop-cons}
 use native.Mathlib.Omega.{arith}
 use mathlib.Core.List.{List, [], ◌∷◌, ◌++◌, append_assoc, append-nil}
-use Rattle.std.proofs.Math.Option.{Option, none, some}
+use Rattle.std.specs.Prelude.{take}
 use Rattle.std.proofs.Math.ListN.{drop}
 use Rattle.rows.specs.Rows.{put}
 use Rattle.rows.specs.Laws.{length_put, put_next}
 use Rattle.text.specs.Text.{Taken, after, expect, line_feed}
-use Rattle.text.specs.TextLaws.{expect_same}
+use Rattle.text.specs.Answers.{Stands}
+use Rattle.text.specs.TextLaws.{expect_same, expect_not}
 use Rattle.trace_rules.specs.Fields.{Item, Fields, no_fields, joined, joined_taken, read_item, read_items, shape, read_line}
-use Rattle.trace_lines.specs.Codes.{item_of, codes, items_from}
-use Rattle.trace_lines.specs.Answers.{Stands, ExtentAt}
+use Rattle.trace_lines.specs.Items.{item_of, items_of, letter_of}
+use Rattle.trace_lines.specs.Widths.{item_width, items_width}
+use Rattle.trace_lines.specs.Answers.{ValueAt, ExtentAt}
 use Rattle.trace_lines.specs.Promises.{LineIs}
-use Rattle.trace_lines.specs.FieldLaws.{expect_not}
 use Rattle.trace_lines.specs.ItemLaws.{and_true}
-use Rattle.trace_lines.specs.WidthLaws.{words_few}
-use Rattle.trace_lines.specs.declared.items.Extent.{Extent}
+use Rattle.trace_lines.specs.WidthLaws.{Sized, item_sized, shape_narrow}
+use Rattle.trace_lines.specs.declared.shapes.Item as coded
+use Rattle.trace_lines.specs.declared.fields.Checked.{Checked}
+use Rattle.trace_lines.specs.declared.line.Extent.{Extent}
+use Rattle.trace_lines.specs.declared.line_kind.LineKind.{LineKind}
 
 -- ---- fields one after another
 
@@ -29,12 +33,12 @@ joined_assoc : (a b c : Fields) → joined a (joined b c) ≡ joined (joined a b
 joined_assoc a b c = ap₂ (λ (ws : List ℕ) (t : Bool). record { words = ws; fits = t }) (sym (append_assoc a.words b.words c.words)) (sym (and_assoc a.fits b.fits c.fits))
 
 after_joined : (a b : Fields) (o : Option (Taken Fields)) → after (after o (joined_taken b)) (joined_taken a) ≡ after o (joined_taken (joined a b))
-after_joined a b none = refl
-after_joined a b (some t) = ap (λ (f : Fields). some (record { value = f; rest = t.rest })) (joined_assoc a b t.value)
+after_joined a b None = refl
+after_joined a b (Some t) = ap (λ (f : Fields). Some (record { value = f; rest = t.rest })) (joined_assoc a b t.value)
 
 after_none : (o : Option (Taken Fields)) → after o (joined_taken no_fields) ≡ o
-after_none none = refl
-after_none (some t) = refl
+after_none None = refl
+after_none (Some t) = refl
 
 pub items_append : (is js : List Item) (xs : List ℕ) → read_items (is ++ js) xs ≡ after (read_items is xs) (λ t. after (read_items js t.rest) (joined_taken t.value))
 unfolding read_items
@@ -43,46 +47,39 @@ items_append (i ∷ is) js xs = first (read_item i xs) (items_append is js)
   where
     others : (a : Fields) (o : Option (Taken Fields))
         → after (after o (λ t. after (read_items js t.rest) (joined_taken t.value))) (joined_taken a) ≡ after (after o (joined_taken a)) (λ t. after (read_items js t.rest) (joined_taken t.value))
-    others a none = refl
-    others a (some t) = after_joined a t.value (read_items js t.rest)
+    others a None = refl
+    others a (Some t) = after_joined a t.value (read_items js t.rest)
 
     first : (o : Option (Taken Fields)) → ((ys : List ℕ) → read_items (is ++ js) ys ≡ after (read_items is ys) (λ t. after (read_items js t.rest) (joined_taken t.value)))
         → after o (λ t. after (read_items (is ++ js) t.rest) (joined_taken t.value))
         ≡ after (after o (λ t. after (read_items is t.rest) (joined_taken t.value))) (λ t. after (read_items js t.rest) (joined_taken t.value))
-    first none h = refl
-    first (some t) h = ap (λ (o : Option (Taken Fields)). after o (joined_taken t.value)) (h t.rest) ∙ others t.value (read_items is t.rest)
+    first None h = refl
+    first (Some t) h = ap (λ (o : Option (Taken Fields)). after o (joined_taken t.value)) (h t.rest) ∙ others t.value (read_items is t.rest)
 
 -- ---- k items are read: their fields, and what is left to read
 
-pub record ItemsTo (xs : List ℕ) (at start count : ℕ) (row row' : List ℕ) (next n : ℕ) (fits : Bool) (k : ℕ) : Type 0 where
-  pub some_left : k ≤ count
-  pub few : n ≤ 3 * k
+-- the items that are left
+abbrev left : List coded.Item → ℕ → List Item
+left items k = items_of (drop k items)
+
+pub record ItemsTo (items : List coded.Item) (xs : List ℕ) (at : ℕ) (row row' : List ℕ) (next n : ℕ) (fits : Bool) (k : ℕ) : Type 0 where
+  pub room : n + items_width (left items k) ≤ length row
   pub fields : Fields
-  pub read : read_items (items_from count start) (drop at xs) ≡ after (read_items (items_from (count - k) (start + k)) (drop next xs)) (joined_taken fields)
+  pub read : read_items (items_of items) (drop at xs) ≡ after (read_items (left items k) (drop next xs)) (joined_taken fields)
   pub stored : row' ≡ put row 0 fields.words
   pub counted : n ≡ length fields.words
   pub all_fit : fits ≡ fields.fits
   pub past : at ≤ next
   pub inside : next ≤ length xs
 
-left_next : (start count k : ℕ) → k < count → items_from (count - k) (start + k) ≡ item_of (get_or codes (start + k) 0) ∷ items_from (count - (k + 1)) (start + (k + 1))
-unfolding items_from
-left_next start count k h =
-    let e : count - k ≡ suc (count - (k + 1)) = omega arith in
-    let f : suc (start + k) ≡ start + (k + 1) = omega arith in
-    ap (λ (m : ℕ). items_from m (start + k)) e ∙ ap (λ (s : ℕ). item_of (get_or codes (start + k) 0) ∷ items_from (count - (k + 1)) s) f
-
-module _ (xs : List ℕ) (at start count : ℕ) (row : List ℕ) where
-  pub items_begin : at ≤ length xs → ItemsTo xs at start count row row at 0 true 0
+module _ (items : List coded.Item) (xs : List ℕ) (at : ℕ) (row : List ℕ) where
+  pub items_begin : at ≤ length xs → items_width (items_of items) ≤ length row → ItemsTo items xs at row row at 0 true 0
   unfolding put
-  items_begin h =
-      let c : count ≡ count - 0 = omega arith in
-      let s : start ≡ start + 0 = omega arith in
+  items_begin h r =
       record {
-        some_left = omega arith;
-        few = omega arith;
+        room = omega (arith, r);
         fields = no_fields;
-        read = ap₂ (λ (m p : ℕ). read_items (items_from m p) (drop at xs)) c s ∙ sym (after_none (read_items (items_from (count - 0) (start + 0)) (drop at xs)));
+        read = sym (after_none (read_items (items_of items) (drop at xs)));
         stored = refl;
         counted = refl;
         all_fit = refl;
@@ -90,49 +87,61 @@ module _ (xs : List ℕ) (at start count : ℕ) (row : List ℕ) where
         inside = h;
       }
 
-  module _ (row' : List ℕ) (next n : ℕ) (fits : Bool) (k : ℕ) (w : ItemsTo xs at start count row row' next n fits k) where
-    item_read : k < count
-        → read_items (items_from count start) (drop at xs)
-        ≡ after (after (read_item (item_of (get_or codes (start + k) 0)) (drop next xs)) (λ t. after (read_items (items_from (count - (k + 1)) (start + (k + 1))) t.rest) (joined_taken t.value))) (joined_taken w.fields)
-    unfolding read_items
-    item_read h = w.read ∙ ap (λ (is : List Item). after (read_items is (drop next xs)) (joined_taken w.fields)) (left_next start count k h)
-
-    pub items_stop : (code : ℕ) → k < count → code ≡ get_or codes (start + k) 0 → read_item (item_of code) (drop next xs) ≡ none → read_items (items_from count start) (drop at xs) ≡ none
-    items_stop code h e r = item_read h ∙ rw (← e, r)
-
-    pub items_next : (code : ℕ) (row'' : List ℕ) (x : Extent) (fits' : Bool) → k < count → code ≡ get_or codes (start + k) 0 → ExtentAt (read_item (item_of code)) xs next n row' row'' x
-        → fits' ≡ (fits && x.fits) → ItemsTo xs at start count row row'' x.next x.count fits' (k + 1)
-    items_next code row'' x fits' h e r f =
-        let narrow = words_few code (drop next xs) _ r.read in
-        let rest = read_items (items_from (count - (k + 1)) (start + (k + 1))) (drop x.next xs) in
-        record {
-          some_left = omega arith;
-          few = omega (arith, w.few, r.counted);
-          fields = joined w.fields r.fields;
-          read = item_read h ∙ rw (← e, r.read) (after_joined w.fields r.fields rest);
-          stored =
-              r.stored ∙ ap₂ (λ (u : List ℕ) (m : ℕ). put u m r.fields.words) w.stored (w.counted ∙ sym (zero-add (length w.fields.words)))
-              ∙ put_next row 0 w.fields.words r.fields.words (length w.fields.words) refl;
-          counted = r.counted ∙ ap (λ (m : ℕ). m + length r.fields.words) w.counted ∙ sym (length-append w.fields.words r.fields.words);
-          all_fit = f ∙ ap₂ (λ (a b : Bool). a && b) w.all_fit r.fits;
-          past = omega (arith, w.past, r.past);
-          inside = r.inside;
-        }
-
+  module _ (row' : List ℕ) (next n : ℕ) (fits : Bool) (k : ℕ) (w : ItemsTo items xs at row row' next n fits k) where
     pub items_length : length row' ≡ length row
     items_length = ap length w.stored ∙ length_put row 0 w.fields.words
 
-    pub items_end : count ≤ k → ExtentAt (read_items (items_from count start)) xs at 0 row row' (record { next = next; count = n; fits = fits })
-    unfolding items_from read_items
+    module _ (none : coded.Item) (h : k < length items) where
+      -- the next item
+      abbrev item : coded.Item
+      item = get_or items k none
+
+      left_next : left items k ≡ item_of item ∷ left items (k + 1)
+      left_next = rw (drop-cons items k none h, add-one)
+
+      item_read : read_items (items_of items) (drop at xs)
+          ≡ after (after (read_item (item_of item) (drop next xs)) (λ t. after (read_items (left items (k + 1)) t.rest) (joined_taken t.value))) (joined_taken w.fields)
+      unfolding read_items
+      item_read = w.read ∙ ap (λ (is : List Item). after (read_items is (drop next xs)) (joined_taken w.fields)) left_next
+
+      pub items_stop : read_item (item_of item) (drop next xs) ≡ None → read_items (items_of items) (drop at xs) ≡ None
+      items_stop r = item_read ∙ rw r
+
+      -- its words have room
+      widths_left : items_width (left items k) ≡ item_width (item_of item) + items_width (left items (k + 1))
+      unfolding items_width
+      widths_left = ap items_width left_next
+
+      pub item_room : (width : ℕ) (words : List ℕ) → width ≡ item_width (item_of item) → n + length (take width words) ≤ length row'
+      item_room width words e = omega (arith, e, length-take width words, w.room, widths_left, items_length)
+
+      pub items_next : (row'' : List ℕ) (v : Checked (List ℕ)) → ValueAt (read_item (item_of item)) (item_width (item_of item)) xs next v
+          → row'' ≡ put row' n (take (item_width (item_of item)) v.value) → ItemsTo items xs at row row'' v.next (n + item_width (item_of item)) (fits && v.fits) (k + 1)
+      items_next row'' v r s =
+          let ws = take (item_width (item_of item)) v.value in
+          let size : length ws ≡ item_width (item_of item) = subst (Sized (item_width (item_of item))) r.read (item_sized (item_of item) (drop next xs)) in
+          record {
+            room = omega (arith, w.room, widths_left);
+            fields = joined w.fields (record { words = ws; fits = v.fits });
+            read = item_read ∙ rw r.read (after_joined w.fields (record { words = ws; fits = v.fits }) (read_items (left items (k + 1)) (drop v.next xs)));
+            stored =
+                s ∙ ap₂ (λ (u : List ℕ) (m : ℕ). put u m ws) w.stored (w.counted ∙ sym (zero-add (length w.fields.words)))
+                ∙ put_next row 0 w.fields.words ws (length w.fields.words) refl;
+            counted = ap₂ (λ (a b : ℕ). a + b) w.counted (sym size) ∙ sym (length-append w.fields.words ws);
+            all_fit = ap (λ (b : Bool). b && v.fits) w.all_fit;
+            past = omega (arith, w.past, r.past);
+            inside = r.inside;
+          }
+
+    pub items_end : length items ≤ k → ExtentAt (read_items (items_of items)) xs at row row' (record { next = next; fits = fits })
+    unfolding read_items
     items_end h =
-        let z : count - k ≡ 0 = omega arith in
         record {
           fields = w.fields;
           read =
-              w.read ∙ ap (λ (m : ℕ). after (read_items (items_from m (start + k)) (drop next xs)) (joined_taken w.fields)) z
-              ∙ ap₂ (λ (ws : List ℕ) (t : Bool). some (record { value = record { words = ws; fits = t }; rest = drop next xs })) (append-nil w.fields.words) (and_true w.fields.fits);
+              w.read ∙ ap (λ (is : List coded.Item). after (read_items (items_of is) (drop next xs)) (joined_taken w.fields)) (drop_of_length-le items h)
+              ∙ ap₂ (λ (ws : List ℕ) (t : Bool). Some (record { value = record { words = ws; fits = t }; rest = drop next xs })) (append-nil w.fields.words) (and_true w.fields.fits);
           stored = w.stored;
-          counted = omega (arith, w.counted);
           fits = w.all_fit;
           past = w.past;
           inside = w.inside;
@@ -140,34 +149,38 @@ module _ (xs : List ℕ) (at start count : ℕ) (row : List ℕ) where
 
 -- ---- a line
 
-pub line_past : (xs : List ℕ) (at : ℕ) → length xs ≤ at → read_line (drop at xs) ≡ none
+pub line_past : (xs : List ℕ) (at : ℕ) → length xs ≤ at → read_line (drop at xs) ≡ None
 unfolding read_line
 line_past xs at h = rw (drop_of_length-le xs h)
 
 module _ (xs : List ℕ) (at letter : ℕ) (h : at < length xs) (is-letter : letter ≡ get_or xs at 0) where
   line_at : read_line (drop at xs)
       ≡ after (shape letter) (λ is. after (read_items is (drop (at + 1) xs)) (λ t.
-      after (expect line_feed some t.rest) (λ rest. some (record { value = record { letter = letter; words = t.value.words; fits = t.value.fits }; rest = rest }))))
+      after (expect line_feed Some t.rest) (λ rest. Some (record { value = record { letter = letter; words = t.value.words; fits = t.value.fits }; rest = rest }))))
   unfolding read_line
   line_at = rw (drop-cons xs at 0 h, is-letter, add-one)
 
-  pub no_letter : shape letter ≡ none → read_line (drop at xs) ≡ none
+  pub no_letter : shape letter ≡ None → read_line (drop at xs) ≡ None
   no_letter e = line_at ∙ rw e
 
-  module _ (is : List Item) (shaped : shape letter ≡ some is) where
-    pub no_items : read_items is (drop (at + 1) xs) ≡ none → read_line (drop at xs) ≡ none
+  module _ (is : List Item) (shaped : shape letter ≡ Some is) where
+    pub no_items : read_items is (drop (at + 1) xs) ≡ None → read_line (drop at xs) ≡ None
     no_items e = line_at ∙ rw (shaped, e)
 
-    module _ (row row' : List ℕ) (x : Extent) (r : ExtentAt (read_items is) xs (at + 1) 0 row row' x) where
-      pub no_feed : (Stands xs x.next 10 → ⊥) → read_line (drop at xs) ≡ none
-      no_feed f = line_at ∙ rw (shaped, r.read, expect_not 10 some xs x.next f)
+    module _ (row row' : List ℕ) (x : Extent) (r : ExtentAt (read_items is) xs (at + 1) row row' x) where
+      pub no_feed : (Stands xs x.next 10 → ⊥) → read_line (drop at xs) ≡ None
+      no_feed f = line_at ∙ rw (shaped, r.read, expect_not 10 Some xs x.next f)
 
-      pub line_read : Stands xs x.next 10 → LineIs xs at row row' (record { letter = letter; next = x.next + 1; fits = x.fits })
-      line_read f =
+      pub line_read : (kind : LineKind) → letter ≡ letter_of kind → Stands xs x.next 10 → LineIs xs at row row' (record { kind = kind; next = x.next + 1; fits = x.fits })
+      line_read kind k f =
           record {
             fields = r.fields.words;
-            read = line_at ∙ rw (shaped, r.read, expect_same 10 some xs x.next f.0 f.1, ← r.fits);
+            read = line_at ∙ rw (shaped, r.read, expect_same 10 Some xs x.next f.0 f.1, ← r.fits, ← k);
             stored = r.stored;
             past = omega (arith, r.past);
             inside = omega (arith, f.0);
           }
+
+-- ---- for the search
+
+pub ruleset line_laws = (line_past, no_letter, no_items, shape_narrow)

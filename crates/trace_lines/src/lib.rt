@@ -4,4 +4,5 @@
 mod fields;
 mod items;
 pub mod line;
+pub mod line_kind;
 mod shapes;

@@ -1,78 +1,72 @@
 // A line of a trace: its letter, its items in order, a line feed.
-ghost use Rattle.std.specs.Prelude.{◌+◌, ◌≤◌, length};
+ghost use Rattle.std.specs.Prelude.{◌≤◌, length};
 ghost use Rattle.trace_rules.specs.Fields.{read_items};
-ghost use Rattle.trace_lines.specs.Codes.{items_from};
+ghost use Rattle.trace_lines.specs.Items.{items_of};
+ghost use Rattle.trace_lines.specs.Widths.{items_width};
 ghost use Rattle.trace_lines.specs.Answers.{ItemsReadAt};
 ghost use Rattle.trace_lines.specs.Promises.{LineReadAt};
 
-use crate::fields::byte_is;
-use crate::items::{Extent, ItemsRead, read_item};
-use crate::shapes::{ShapeRead, code_at, shape_of};
+use crate::items::read_item;
+use crate::line_kind::LineKind;
+use crate::shapes::Item;
 use layout::body::BODY_SIZE;
+use text::reader::byte_is;
+use words::row::store_words;
 
 // The words of the longest record, a body's.
 pub const LINE_WORDS: usize = BODY_SIZE;
 
-// The letter, the place after the line, and whether all numbers are in their ranges.
+// The kind, the place after the line, and whether all numbers are in their ranges.
 #[derive(Clone, Copy)]
 pub struct ReadLine {
-    pub letter: u8,
+    pub kind: LineKind,
     pub next: usize,
     pub fits: bool,
 }
 
+// The place after items, and whether all numbers are in their ranges.
 #[derive(Clone, Copy)]
-pub enum LineRead {
-    Line(ReadLine),
-    Unreadable,
+pub struct Extent {
+    pub next: usize,
+    pub fits: bool,
 }
 
-// The items of the table from start on.
-fn read_items(text: &[u8], at: usize, start: usize, count: usize, words: &mut [u32]) -> ItemsRead
-    requires { (at ≤ length text.now) × (start + count ≤ 77) × (count ≤ 22) }
-    ensures { ItemsReadAt (read_items (items_from count start)) text.now at 0 words.old words.new result }
+// The items in turn; their words stand at the front of the row.
+#[tactic(auto, using(crate::specs::LineLaws::items_begin, crate::specs::LineLaws::items_length))]
+fn read_items(text: &[u8], at: usize, items: &[Item], words: &mut [u32]) -> Option<Extent>
+    requires { (at ≤ length text.now) × (items_width (items_of items.now) ≤ length words.old) }
+    ensures { ItemsReadAt (read_items (items_of items.now)) text.now at words.old words.new result }
 {
     let mut next = at;
     let mut n = 0;
     let mut fits = true;
-    let mut k = 0;
-    while k < count {
-        let code = code_at(start + k);
-        let ItemsRead::ItemsAre(e) = read_item(text, next, code, words, n) else {
-            return ItemsRead::NoItems;
-        };
-        next = e.next;
-        n = e.count;
-        fits = fits && e.fits;
-        k += 1;
+    for item in items {
+        let read = read_item(text, next, *item)?;
+        let width = item.width();
+        store_words(words, n, &read.value[..width]);
+        next = read.next;
+        n += width;
+        fits &= read.fits;
     }
-    ItemsRead::ItemsAre(Extent {
-        next,
-        count: n,
-        fits,
-    })
+    Some(Extent { next, fits })
 }
 
 // The row takes the words of a line that is read; of one that is not it may hold the first.
-pub fn read_line(text: &[u8], at: usize, words: &mut [u32; LINE_WORDS]) -> LineRead
+#[tactic(auto, using(crate::specs::LineLaws::line_laws))]
+pub fn read_line(text: &[u8], at: usize, words: &mut [u32; LINE_WORDS]) -> Option<ReadLine>
     ensures { LineReadAt text.now at words.old words.new result }
 {
     if at >= text.len() {
-        return LineRead::Unreadable;
+        return None;
     }
-    let letter = text[at];
-    let ShapeRead::Shaped(s) = shape_of(letter) else {
-        return LineRead::Unreadable;
-    };
-    let ItemsRead::ItemsAre(e) = read_items(text, at + 1, s.start, s.count, words) else {
-        return LineRead::Unreadable;
-    };
+    let kind = LineKind::from_letter(text[at])?;
+    let e = read_items(text, at + 1, kind.items(), words)?;
     if byte_is(text, e.next, b'\n') {
-        return LineRead::Line(ReadLine {
-            letter,
+        return Some(ReadLine {
+            kind,
             next: e.next + 1,
             fits: e.fits,
         });
     }
-    LineRead::Unreadable
+    None
 }

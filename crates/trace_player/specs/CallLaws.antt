@@ -1,5 +1,5 @@
 -- One call of `play_line`, from what its parts answer. Assumes nothing.
-use Rattle.std.specs.Prelude.{ℕ, ◌≤◌, ◌<◌, ◌≡◌, refl, true, false, List, [], ◌∷◌, length, drop}
+use Rattle.std.specs.Prelude.{ℕ, ◌≤◌, ◌<◌, ◌≡◌, refl, true, false, List, [], ◌∷◌, length, drop, Ok, Some, None, Err}
 use Rattle.std.proofs.Common.{zero-add, arith, sym, ap, ◌∙◌}
 use borrow.Author.Tests.{eq-eqb, ne_eqb, le-leb, lt-leb}
 use Rattle.rows.specs.Rows.{put}
@@ -11,12 +11,12 @@ use Rattle.contact_range.specs.Recorded.{capacity_of}
 use Rattle.step.specs.Step.{Given, Rows, long, lengths_fit}
 use Rattle.trace_rules.specs.Fields.{Line, addition_letter, go_letter}
 use Rattle.trace_rules.specs.Printed.{refused_text, unreadable}
+use Rattle.trace_lines.specs.Items.{letter_of}
 use Rattle.trace_lines.specs.WidthLaws.{line_width}
 use Rattle.trace_lines.specs.Widths.{width_of}
 use Rattle.trace_player.specs.declared.player.Player.{Player}
 use Rattle.trace_player.specs.declared.player.AskedLine.{AskedLine}
 use Rattle.trace_player.specs.declared.play.PlayedLine.{PlayedLine}
-use Rattle.trace_player.specs.declared.play.PlayAnswer.TheVariants as answer
 use Rattle.contact_types.specs.declared.refusal.Refusal.TheVariants.{WrongLength}
 use Rattle.trace_player.specs.Player.{player_at, unreadable_line, readable_line, asked, LineAsked}
 use Rattle.trace_player.specs.Played.{Lent, lent, printed_length, lent_fits, refused, ended, played, AfterLine, Effect, printing, go_effect, addition_effect, line_effect, request_words, unreadable_effect, asked_after, after_line, Made, AdditionMade, AskedPlayed, LinePlayed}
@@ -89,13 +89,13 @@ module _ (xs : List ℕ) (p : Player) (l : Lent) where
   unfolding after_line
   after_asked f h = rw (f, lt-leb (length xs) p.place h)
 
-  pub lengths_refused : lent_fits l ≡ false → LinePlayed xs p l l (answer.Refused WrongLength)
+  pub lengths_refused : lent_fits l ≡ false → LinePlayed xs p l l (Err WrongLength)
   lengths_refused f = let e = sym (after_refused f) in record { answer = ap (λ (r : AfterLine). r.answer) e; lent = ap (λ (r : AfterLine). r.lent) e }
 
-  pub past_end : lent_fits l ≡ true → length xs ≤ p.place → LinePlayed xs p l l answer.Ended
+  pub past_end : lent_fits l ≡ true → length xs ≤ p.place → LinePlayed xs p l l (Ok None)
   past_end f h = let e = sym (after_end f h) in record { answer = ap (λ (r : AfterLine). r.answer) e; lent = ap (λ (r : AfterLine). r.lent) e }
 
-  pub line_played : (l' : Lent) (r : PlayedLine) → lent_fits l ≡ true → p.place < length xs → AskedPlayed xs p l l' r → LinePlayed xs p l l' (answer.Played r)
+  pub line_played : (l' : Lent) (r : PlayedLine) → lent_fits l ≡ true → p.place < length xs → AskedPlayed xs p l l' r → LinePlayed xs p l l' (Ok (Some r))
   line_played l' r f h a = let e = sym (after_asked f h) in record { answer = a.answer ∙ ap (λ (r : AfterLine). r.answer) e; lent = a.lent ∙ ap (λ (r : AfterLine). r.lent) e }
 
 -- ---- lengths
@@ -127,11 +127,11 @@ nine_words (a ∷ b ∷ c ∷ d ∷ f ∷ g ∷ h ∷ k ∷ []) e = absurd (omeg
 nine_words (a ∷ b ∷ c ∷ d ∷ f ∷ g ∷ h ∷ k ∷ m ∷ []) e = refl
 nine_words (a ∷ b ∷ c ∷ d ∷ f ∷ g ∷ h ∷ k ∷ m ∷ n ∷ ws) e = absurd (omega (arith, e))
 
-pub request_words_lem : (xs : List ℕ) (p : Player) (before after : List ℕ) (a : AskedLine) (i : LineAsked xs p before after a) → a.letter ≡ addition_letter → request_length ≤ length before
+pub request_words_lem : (xs : List ℕ) (p : Player) (before after : List ℕ) (a : AskedLine) (i : LineAsked xs p before after a) → letter_of a.kind ≡ addition_letter → request_length ≤ length before
     → request_words after ≡ i.fields
 request_words_lem xs p before after a i e h =
-    let t : Taken Line = record { value = record { letter = a.letter; words = i.fields; fits = i.fits }; rest = i.read.0 } in
-    let w : length i.fields ≡ request_length = line_width (drop p.place xs) t i.read.1 ∙ addition_width a.letter e in
+    let t : Taken Line = record { value = record { letter = letter_of a.kind; words = i.fields; fits = i.fits }; rest = i.read.0 } in
+    let w : length i.fields ≡ request_length = line_width (drop p.place xs) t i.read.1 ∙ addition_width (letter_of a.kind) e in
     let at : (k : ℕ) → k < request_length → word_at after k ≡ word_at i.fields k = λ k s. ap (λ (ws : List ℕ). word_at ws k) i.stored ∙ ap (word_at (put before 0 i.fields)) (sym (zero-add k)) ∙ get_d_put before 0 i.fields k 0 (omega (arith, w, s)) (omega (arith, h, s)) in
     (λ j. at 0 (omega arith) j ∷ at 1 (omega arith) j ∷ at 2 (omega arith) j ∷ at 3 (omega arith) j ∷ at 4 (omega arith) j ∷ at 5 (omega arith) j ∷ at 6 (omega arith) j ∷ at 7 (omega arith) j
     ∷ at 8 (omega arith) j ∷ [])

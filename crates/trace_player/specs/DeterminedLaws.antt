@@ -1,27 +1,27 @@
 -- The promise of `play_line` has one outcome, and no other: the answer itself, every lent word and byte. Assumes nothing.
-use Rattle.std.specs.Prelude.{ℕ, ◌≡◌, Bool, cond, not, List, leb, length}
+use Rattle.std.specs.Prelude.{ℕ, ◌≡◌, Bool, cond, not, List, leb, length, Ok, Some, None, Err, Result, Option}
 use Rattle.std.proofs.Math.Path.{refl}
 use Rattle.std.proofs.Common.{sym, ap, ◌∙◌}
 use Rattle.std.proofs.Math.Bool.{true, false}
 use Rattle.contact_types.specs.RefusalLaws.{same_by, refusal_for, refusal_for_lem}
 use Rattle.trace_player.specs.declared.player.Player.{Player}
-use Rattle.trace_player.specs.declared.play.PlayAnswer.{PlayAnswer}
-use Rattle.trace_player.specs.declared.play.PlayAnswer.TheVariants as answer
 use Rattle.trace_player.specs.Player.{Asked, unreadable_line, readable_line, asked}
 use Rattle.trace_player.specs.Played.{Lent, lent_fits, LineAnswer, refused, ended, played, plain_answer, AfterLine, asked_after, after_line, LinePlayed}
+use Rattle.contact_types.specs.declared.refusal.Refusal.{Refusal}
+use Rattle.trace_player.specs.declared.play.PlayedLine.{PlayedLine}
 
-abbrev line_of : LineAnswer → PlayAnswer
-line_of (played player written) = answer.Played (record { player = player; written = written })
-line_of ended = answer.Ended
-line_of (refused n) = answer.Refused (refusal_for n)
+abbrev line_of : LineAnswer → Result (Option PlayedLine) Refusal
+line_of (played player written) = Ok (Some (record { player = player; written = written }))
+line_of ended = (Ok None)
+line_of (refused n) = Err (refusal_for n)
 
-line_of_lem : (r : PlayAnswer) → line_of (plain_answer r) ≡ r
-line_of_lem (answer.Played l) = refl
-line_of_lem answer.Ended = refl
-line_of_lem (answer.Refused r) = ap answer.Refused (refusal_for_lem r)
+line_of_lem : (r : Result (Option PlayedLine) Refusal) → line_of (plain_answer r) ≡ r
+line_of_lem (Ok (Some l)) = refl
+line_of_lem (Ok None) = refl
+line_of_lem (Err r) = ap Err (refusal_for_lem r)
 
 module _ (xs : List ℕ) (p : Player) (l : Lent) where
-  pub play_line_determined : {l' l'' : Lent} {r r' : PlayAnswer} → LinePlayed xs p l l' r → LinePlayed xs p l l'' r' → (r' ≡ r) × (l'' ≡ l')
+  pub play_line_determined : {l' l'' : Lent} {r r' : Result (Option PlayedLine) Refusal} → LinePlayed xs p l l' r → LinePlayed xs p l l'' r' → (r' ≡ r) × (l'' ≡ l')
   play_line_determined a b = (same_by plain_answer line_of line_of_lem a.answer b.answer, b.lent ∙ sym a.lent)
 
   asked_answer : (a : Asked) → plain_answer (line_of (asked_after xs p l a).answer) ≡ (asked_after xs p l a).answer
@@ -40,5 +40,5 @@ module _ (xs : List ℕ) (p : Player) (l : Lent) where
       tests true true = refl
       tests true false = asked_answer (asked xs p)
 
-  pub play_line_answered : (r : PlayAnswer) × LinePlayed xs p l (after_line xs p l).lent r
+  pub play_line_answered : (r : Result (Option PlayedLine) Refusal) × LinePlayed xs p l (after_line xs p l).lent r
   play_line_answered = (line_of (after_line xs p l).answer, record { answer = line_answer; lent = refl })

@@ -1,5 +1,5 @@
 -- What an addition and a step print, from what the calls promise. Assumes nothing.
-use Rattle.std.specs.Prelude.{ℕ, ◌≡◌, Bool, ◌&&◌, List, []}
+use Rattle.std.specs.Prelude.{ℕ, ◌≡◌, Bool, ◌&&◌, List, [], Err, Ok, Result}
 use Rattle.std.proofs.Common.{arith, sym, ap₂, subst, ◌∙◌}
 use Rattle.std.proofs.Math.Path.{refl, ap}
 use Rattle.std.proofs.Math.Bool.{true, false, cond}
@@ -15,14 +15,11 @@ use Rattle.contact_graph.specs.Calls.{add_refusal, new_id_of, added_words}
 use Rattle.contact_graph.specs.Promises as graph
 use Rattle.contact_graph.specs.Promises.{Added, add_answer}
 use Rattle.contact_graph.specs.declared.call.Request.{Request}
-use Rattle.contact_graph.specs.declared.add.AddAnswer.{AddAnswer}
 use Rattle.status_pass.specs.EventsAndChanges.{event_words, change_words}
 use Rattle.step.specs.Step as step
 use Rattle.step.specs.Step.{Given, Rows, given_long, rows_long, lengths_fit, step_refusal, pass_of, rows_of, answer_of, Stepped}
 use Rattle.step.proofs.ReadLaws.{events_room, changes_room, events_read, changes_read}
 use Rattle.step.specs.declared.answer.StepReport.{StepReport}
-use Rattle.step.specs.declared.answer.StepAnswer.{StepAnswer}
-use Rattle.step.specs.declared.answer.StepAnswer.TheVariants as answer
 use Rattle.trace_rules.specs.Printed.{step_text, refused_text}
 use Rattle.trace_rules.specs.Fields.{Line}
 use Rattle.trace_rules.specs.Play.{Played, play_addition, proposals_of, shares_of, given_by}
@@ -34,6 +31,8 @@ use Rattle.contact_range.specs.Recorded.{capacity_of}
 use Rattle.trace_rules.specs.Places.{lines_between}
 use Rattle.trace_player.specs.declared.player.Player.{Player}
 use Rattle.trace_player.specs.Played.{lent, Effect, step_effect, go_effect, Made, answer_text, Room}
+use Rattle.contact_types.specs.declared.refusal.Refusal.{Refusal}
+use Rattle.contact_types.specs.declared.contact_id.ContactId.{ContactId}
 
 -- ---- an addition
 abbrev pub IsAdded : graph.IdAnswer → Type 0
@@ -48,7 +47,7 @@ abbrev addition_by : Bool → List ℕ → ℕ → List ℕ → Played
 addition_by t words n g = cond t (record { text = []; graph = words }) (record { text = refused_text n; graph = g })
 
 -- an accepted one prints nothing
-pub addition_accepted : (g : List ℕ) (a : Request) (h : List ℕ) (r : AddAnswer) → Added g a h r → IsAdded (add_answer r) → (h ≡ (play_addition a g).graph) × ((play_addition a g).text ≡ [])
+pub addition_accepted : (g : List ℕ) (a : Request) (h : List ℕ) (r : Result ContactId Refusal) → Added g a h r → IsAdded (add_answer r) → (h ≡ (play_addition a g).graph) × ((play_addition a g).text ≡ [])
 addition_accepted g a h r p is = by (eqb (add_refusal g a) 0) (subst IsAdded p.answer is) p.graph
   where
     by : (t : Bool) → IsAdded (cond t (graph.added (new_id_of g)) (graph.refused_id (add_refusal g a))) → h ≡ cond t (added_words g a) g
@@ -57,7 +56,7 @@ addition_accepted g a h r p is = by (eqb (add_refusal g a) 0) (subst IsAdded p.a
     by false i e = absurd i
 
 -- a refused one its number
-pub addition_refused : (g : List ℕ) (a : Request) (h : List ℕ) (r : AddAnswer) (n : ℕ) → Added g a h r → add_answer r ≡ graph.refused_id n
+pub addition_refused : (g : List ℕ) (a : Request) (h : List ℕ) (r : Result ContactId Refusal) (n : ℕ) → Added g a h r → add_answer r ≡ graph.refused_id n
     → (h ≡ (play_addition a g).graph) × ((play_addition a g).text ≡ refused_text n)
 addition_refused g a h r n p e = by (eqb (add_refusal g a) 0) (sym e ∙ p.answer) p.graph
   where
@@ -66,7 +65,7 @@ addition_refused g a h r n p e = by (eqb (add_refusal g a) 0) (sym e ∙ p.answe
     by true i e = absurd (subst IsAdded (sym i) tt)
     by false i e = (e, ap (λ (b : graph.IdAnswer). refused_text (refused_number b)) (sym i))
 
-pub added_for : {g h : List ℕ} {a b : Request} {r : AddAnswer} → a ≡ b → Added g a h r → Added g b h r
+pub added_for : {g h : List ℕ} {a b : Request} {r : Result ContactId Refusal} → a ≡ b → Added g a h r → Added g b h r
 added_for {g} {h} {a} {b} {r} e p = subst (λ (q : Request). Added g q h r) e p
 
 pub written_as : {out out' as' bs : List ℕ} {at r : ℕ} → as' ≡ bs → Written out at as' out' r → Written out at bs out' r
@@ -140,7 +139,7 @@ step_by t x g l =
 module _ (x : Given) (g : List ℕ) (l : Rows) where
   -- an accepted step
   done_room : (h : List ℕ) (l' : Rows) (r : StepReport) → step_refusal x g l ≡ 0 → step.stepped r.events r.changes r.recycled ≡ answer_of x g → l' ≡ rows_of x g l
-      → Room (answer.Done r) l'.events l'.changes
+      → Room (Ok r) l'.events l'.changes
   unfolding answer_of rows_of
   done_room h l' r e a m =
       let n : r.events ≡ length (pass_of x g).events = ap events_in a in
@@ -155,33 +154,33 @@ module _ (x : Given) (g : List ℕ) (l : Rows) where
   unfolding answer_of
   done_answer = tt
 
-  pub step_room : (h : List ℕ) (l' : Rows) (r : StepAnswer) → Stepped x g l h l' r → Room r l'.events l'.changes
-  step_room h l' (answer.Refused r) s = tt
-  step_room h l' (answer.Done r) s = by (eqb (step_refusal x g l) 0) refl s.answer s.rows
+  pub step_room : (h : List ℕ) (l' : Rows) (r : Result StepReport Refusal) → Stepped x g l h l' r → Room r l'.events l'.changes
+  step_room h l' (Err r) s = tt
+  step_room h l' (Ok r) s = by (eqb (step_refusal x g l) 0) refl s.answer s.rows
     where
       by : (t : Bool) → eqb (step_refusal x g l) 0 ≡ t → step.stepped r.events r.changes r.recycled ≡ cond t (answer_of x g) (step.refused (step_refusal x g l))
-          → l' ≡ cond t (rows_of x g l) l → Room (answer.Done r) l'.events l'.changes
+          → l' ≡ cond t (rows_of x g l) l → Room (Ok r) l'.events l'.changes
       by true e a m = done_room h l' r (eqb-true (step_refusal x g l) 0 e) a m
       by false e a m = absurd (subst IsDone a tt)
 
   -- what it answers, and the graph and the rows after it, are its effect
-  pub step_told : (h : List ℕ) (l' : Rows) (r : StepAnswer) → Stepped x g l h l' r
+  pub step_told : (h : List ℕ) (l' : Rows) (r : Result StepReport Refusal) → Stepped x g l h l' r
       → (answer_text r l'.events l'.changes ≡ (step_effect x g l).text) × (h ≡ (step_effect x g l).graph) × (l' ≡ (step_effect x g l).rows)
   unfolding step_effect
-  step_told h l' (answer.Refused r) s = by (eqb (step_refusal x g l) 0) s.answer s.graph s.rows
+  step_told h l' (Err r) s = by (eqb (step_refusal x g l) 0) s.answer s.graph s.rows
     where
       by : (t : Bool) → step.refused (number_of r) ≡ cond t (answer_of x g) (step.refused (step_refusal x g l)) → h ≡ cond t (pass_of x g).graph g → l' ≡ cond t (rows_of x g l) l
           → (refused_text (number_of r) ≡ (step_by t x g l).text) × (h ≡ (step_by t x g l).graph) × (l' ≡ (step_by t x g l).rows)
       by true a e m = absurd (subst IsDone (sym a) done_answer)
       by false a e m = (ap (λ (k : step.Answer). refused_text (step_number k)) a, e, m)
-  step_told h l' (answer.Done r) s = by (eqb (step_refusal x g l) 0) refl s.answer s.graph s.rows
+  step_told h l' (Ok r) s = by (eqb (step_refusal x g l) 0) refl s.answer s.graph s.rows
     where
       by : (t : Bool) → eqb (step_refusal x g l) 0 ≡ t → step.stepped r.events r.changes r.recycled ≡ cond t (answer_of x g) (step.refused (step_refusal x g l))
           → h ≡ cond t (pass_of x g).graph g → l' ≡ cond t (rows_of x g l) l
-          → (answer_text (answer.Done r) l'.events l'.changes ≡ (step_by t x g l).text) × (h ≡ (step_by t x g l).graph) × (l' ≡ (step_by t x g l).rows)
+          → (answer_text (Ok r) l'.events l'.changes ≡ (step_by t x g l).text) × (h ≡ (step_by t x g l).graph) × (l' ≡ (step_by t x g l).rows)
       by true e a k m =
           let z = eqb-true (step_refusal x g l) 0 e in
-          (ap₂ step_text (events_read x g l z l' (answer.Done r) a m) (changes_read x g l z l' (answer.Done r) a m), k, m)
+          (ap₂ step_text (events_read x g l z l' (Ok r) a m) (changes_read x g l z l' (Ok r) a m), k, m)
       by false e a k m = absurd (subst IsDone a tt)
 
   effect_given : x ≡ (step_effect x g l).given
@@ -192,7 +191,7 @@ module _ (x : Given) (g : List ℕ) (l : Rows) where
       by true = refl
       by false = refl
 
-  pub step_made : (h : List ℕ) (l' : Rows) (r : StepAnswer) (out out' : List ℕ) (n : ℕ) → Stepped x g l h l' r → Written out 0 (answer_text r l'.events l'.changes) out' n
+  pub step_made : (h : List ℕ) (l' : Rows) (r : Result StepReport Refusal) (out out' : List ℕ) (n : ℕ) → Stepped x g l h l' r → Written out 0 (answer_text r l'.events l'.changes) out' n
       → Made (step_effect x g l) out (lent h x l' out') n
   step_made h l' r out out' n s w =
       let t = step_told h l' r s in

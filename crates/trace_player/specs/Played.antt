@@ -1,5 +1,5 @@
 -- One call of `play_line`: the answer, and every lent word and byte. Definitions only.
-use Rattle.std.specs.Prelude.{ℕ, ◌*◌, ◌≤◌, ◌≡◌, Bool, cond, not, ◌&&◌, List, [], ◌∷◌, eqb, leb, length}
+use Rattle.std.specs.Prelude.{ℕ, ◌*◌, ◌≤◌, ◌≡◌, Bool, cond, not, ◌&&◌, List, [], ◌∷◌, eqb, leb, length, Err, Ok, Result, Some, None, Option}
 use Rattle.rows.specs.Rows.{put}
 use Rattle.contact_types.specs.Refusals.{number_of}
 use Rattle.contact_range.specs.Range.{in_range}
@@ -20,12 +20,10 @@ use Rattle.layout.specs.Request.{request_body1, request_body1_number, request_bo
 use Rattle.layout.specs.Change.{change_size}
 use Rattle.layout.specs.Event.{event_size}
 use Rattle.step.specs.Read.{events_of, changes_of}
-use Rattle.step.specs.declared.answer.StepAnswer.{StepAnswer}
-use Rattle.step.specs.declared.answer.StepAnswer.TheVariants as step
 use Rattle.trace_player.specs.declared.play.PlayedLine.{PlayedLine}
-use Rattle.trace_player.specs.declared.play.PlayAnswer.{PlayAnswer}
-use Rattle.trace_player.specs.declared.play.PlayAnswer.TheVariants as answer
 use Rattle.trace_player.specs.Player.{player_at, Asked, unreadable_line, readable_line, asked}
+use Rattle.step.specs.declared.answer.StepReport.{StepReport}
+use Rattle.contact_types.specs.declared.refusal.Refusal.{Refusal}
 
 -- what a call is lent, beside the trace: the graph, a step's rows, and a row for what is printed
 pub record Lent : Type 0 where
@@ -51,10 +49,10 @@ pub data LineAnswer : Type 0 where
   ended : LineAnswer
   played : (player : Player) (written : ℕ) → LineAnswer
 
-abbrev pub plain_answer : PlayAnswer → LineAnswer
-plain_answer (answer.Played l) = played l.player l.written
-plain_answer answer.Ended = ended
-plain_answer (answer.Refused r) = refused (number_of r)
+abbrev pub plain_answer : Result (Option PlayedLine) Refusal → LineAnswer
+plain_answer (Ok (Some l)) = played l.player l.written
+plain_answer (Ok None) = ended
+plain_answer (Err r) = refused (number_of r)
 
 pub record AfterLine : Type 0 where
   pub answer : LineAnswer
@@ -126,13 +124,13 @@ pub record AdditionMade (words g out g' out' : List ℕ) (written : ℕ) : Type 
   pub text : Written out 0 (play_addition (request_of words) g).text out' written
 
 -- what a step's answer prints, from the rows after it; the rows hold what is counted
-abbrev pub answer_text : StepAnswer → List ℕ → List ℕ → List ℕ
-answer_text (step.Done r) events changes = step_text (events_of (step.Done r) events) (changes_of (step.Done r) changes)
-answer_text (step.Refused r) events changes = refused_text (number_of r)
+abbrev pub answer_text : Result StepReport Refusal → List ℕ → List ℕ → List ℕ
+answer_text (Ok r) events changes = step_text (events_of (Ok r) events) (changes_of (Ok r) changes)
+answer_text (Err r) events changes = refused_text (number_of r)
 
-abbrev pub Room : StepAnswer → List ℕ → List ℕ → Type 0
-Room (step.Done r) events changes = (r.events * event_size ≤ length events) × (r.changes * change_size ≤ length changes)
-Room (step.Refused r) events changes = Unit {0}
+abbrev pub Room : Result StepReport Refusal → List ℕ → List ℕ → Type 0
+Room (Ok r) events changes = (r.events * event_size ≤ length events) × (r.changes * change_size ≤ length changes)
+Room (Err r) events changes = Unit {0}
 
 -- the line at the player's place is played
 pub record AskedPlayed (xs : List ℕ) (p : Player) (l l' : Lent) (r : PlayedLine) : Type 0 where
@@ -140,6 +138,6 @@ pub record AskedPlayed (xs : List ℕ) (p : Player) (l l' : Lent) (r : PlayedLin
   pub lent : l' ≡ (asked_after xs p l (asked xs p)).lent
 
 -- The promise of `play_line`.
-pub record LinePlayed (xs : List ℕ) (p : Player) (l l' : Lent) (r : PlayAnswer) : Type 0 where
+pub record LinePlayed (xs : List ℕ) (p : Player) (l l' : Lent) (r : Result (Option PlayedLine) Refusal) : Type 0 where
   pub answer : plain_answer r ≡ (after_line xs p l).answer
   pub lent : l' ≡ (after_line xs p l).lent

@@ -1,17 +1,14 @@
 -- The player: what the line at its place asks for, and the player after it. Definitions only.
-use Rattle.std.specs.Prelude.{ℕ, ◌≡◌, Bool, true, false, cond, List, [], drop}
-use Rattle.std.proofs.Math.Option.{Option, none, some}
+use Rattle.std.specs.Prelude.{ℕ, ◌≡◌, Bool, true, false, cond, List, [], drop, None, Some, Option}
 use Rattle.rows.specs.Rows.{put}
 use Rattle.trace_rules.specs.Fields.{Line, read_line, go_letter}
 use Rattle.trace_rules.specs.Reading.{is, Context, follow}
 use Rattle.trace_rules.specs.Records.{fits_after}
 use Rattle.trace_rules.specs.Places.{place_of}
+use Rattle.trace_lines.specs.Items.{letter_of}
 use Rattle.trace_player.specs.declared.player.Player.{Player}
 use Rattle.trace_player.specs.declared.player.AskedLine.{AskedLine}
-use Rattle.trace_player.specs.declared.player.Asked as declared
-use Rattle.trace_player.specs.declared.player.Asked.TheVariants as answer
-use Rattle.trace_player.specs.declared.player.Followed.{Followed}
-use Rattle.trace_player.specs.declared.player.Followed.TheVariants as followed
+use Rattle.trace_player.specs.declared.player.Next.{Next}
 
 -- nothing has been read since the last go
 abbrev pub player_at : ℕ → Player
@@ -32,8 +29,8 @@ pub data Asked : Type 0 where
   readable_line : Line → Player → Asked
 
 abbrev pub or_unreadable_line : {A : Type 0} → Option A → (A → Asked) → Asked
-or_unreadable_line none f = unreadable_line
-or_unreadable_line (some a) f = f a
+or_unreadable_line None f = unreadable_line
+or_unreadable_line (Some a) f = f a
 
 unfoldable pub asked : List ℕ → Player → Asked
 asked xs p =
@@ -44,21 +41,21 @@ asked xs p =
 abbrev pub lettered : ℕ → Line
 lettered letter = record { letter = letter; words = []; fits = true }
 
-abbrev pub context_if : Followed → Option Context
-context_if (followed.May n) = some (record { after_point = n.after_point; settings = n.settings })
-context_if followed.MayNot = none
+abbrev pub context_if : Option Next → Option Context
+context_if (Some n) = Some (record { after_point = n.after_point; settings = n.settings })
+context_if None = None
 
-pub record FollowedBy (after_point settings : Bool) (letter : ℕ) (r : Followed) : Type 0 where
+pub record FollowedBy (after_point settings : Bool) (letter : ℕ) (r : Option Next) : Type 0 where
   pub context : follow (record { after_point = after_point; settings = settings }) (lettered letter) ≡ context_if r
 
 -- a line: its words stand in the row
 pub record LineAsked (xs : List ℕ) (p : Player) (before after : List ℕ) (l : AskedLine) : Type 0 where
   pub fields : List ℕ
   pub fits : Bool
-  pub line : asked xs p ≡ readable_line (record { letter = l.letter; words = fields; fits = fits }) l.player
+  pub line : asked xs p ≡ readable_line (record { letter = letter_of l.kind; words = fields; fits = fits }) l.player
   pub stored : after ≡ put before 0 fields
-  pub read : (rest : List ℕ) × (read_line (drop p.place xs) ≡ some (record { value = record { letter = l.letter; words = fields; fits = fits }; rest = rest }))
+  pub read : (rest : List ℕ) × (read_line (drop p.place xs) ≡ Some (record { value = record { letter = letter_of l.kind; words = fields; fits = fits }; rest = rest }))
 
-abbrev pub AskedAt : List ℕ → Player → List ℕ → List ℕ → declared.Asked → Type 0
-AskedAt xs p before after (answer.Line l) = LineAsked xs p before after l
-AskedAt xs p before after answer.Unreadable = asked xs p ≡ unreadable_line
+abbrev pub AskedAt : List ℕ → Player → List ℕ → List ℕ → Option AskedLine → Type 0
+AskedAt xs p before after (Some l) = LineAsked xs p before after l
+AskedAt xs p before after None = asked xs p ≡ unreadable_line

@@ -3,7 +3,7 @@ ghost use Rattle.std.specs.Prelude.{◌≡◌, length};
 ghost use Rattle.layout.specs.Request.{request_length};
 ghost use Rattle.trace_player.specs.Played.{request_words, AdditionMade};
 
-use contact_graph::add::{AddAnswer, add};
+use contact_graph::add::add;
 use contact_graph::call::load_request;
 use layout::request::{
     REQUEST_BODY1, REQUEST_BODY1_NUMBER, REQUEST_BODY2, REQUEST_BODY2_NUMBER, REQUEST_COLLIDER1,
@@ -36,7 +36,7 @@ pub fn play_addition(graph: &mut [u32], request: &[u32], out: &mut [u8]) -> usiz
     ensures { AdditionMade request.now graph.old out.old graph.new out.new result }
 {
     match add(graph, load_request(request)) {
-        AddAnswer::Added(_) => 0,
-        AddAnswer::Refused(r) => write_refused(out, 0, r.number()),
+        Ok(_) => 0,
+        Err(r) => write_refused(out, 0, r.number()),
     }
 }

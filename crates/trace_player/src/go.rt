@@ -1,42 +1,45 @@
 // A line that asks for a step.
 ghost use Rattle.std.specs.Prelude.{◌≡◌, true, ◌&&◌};
 ghost use Rattle.contact_range.specs.Range.{right_length, in_range};
-ghost use Rattle.step.specs.Step.{given, rows, lengths_fit};
+ghost use Rattle.step.specs.Step.{given, given_rows, rows, lengths_fit};
 ghost use Rattle.text.specs.Text.{Written};
 ghost use Rattle.trace_player.specs.Played.{lent, answer_text, Room, step_effect, go_effect, Made};
 
 use crate::fill::fill_given;
 use crate::player::Player;
 use contact_range::range::in_range;
-use step::answer::StepAnswer;
+use contact_types::refusal::Refusal;
+use step::answer::StepReport;
+use step::input::StepInput;
 use step::step::step;
 use trace_printing::cells::write_refused;
 use trace_printing::lines::write_step;
 
 // What a step answered, printed from its rows.
-fn print_answer(answer: StepAnswer, events: &[u32], changes: &[u32], out: &mut [u8]) -> usize
+fn print_answer(
+    answer: Result<StepReport, Refusal>,
+    events: &[u32],
+    changes: &[u32],
+    out: &mut [u8],
+) -> usize
     requires { Room answer events.now changes.now }
     ensures { Written out.old 0 (answer_text answer events.now changes.now) out.new result }
 {
     match answer {
-        StepAnswer::Done(report) => write_step(
+        Ok(report) => write_step(
             events,
             report.events as usize,
             changes,
             report.changes as usize,
             out,
         ),
-        StepAnswer::Refused(r) => write_refused(out, 0, r.number()),
+        Err(r) => write_refused(out, 0, r.number()),
     }
 }
 
 // The step, on rows that are filled.
 fn play_step(
-    settings: &[u32],
-    colliders: &[u32],
-    bodies: &[u32],
-    proposals: &[u32],
-    shares: &[u32],
+    input: &StepInput<'_>,
     graph: &mut [u32],
     bits: &mut [u64],
     events: &mut [u32],
@@ -44,11 +47,9 @@ fn play_step(
     distances: &mut [u32],
     out: &mut [u8],
 ) -> usize
-    ensures { Made (step_effect (given settings.now colliders.now bodies.now proposals.now shares.now) graph.old (rows bits.old events.old changes.old distances.old)) out.old (lent graph.new (given settings.now colliders.now bodies.now proposals.now shares.now) (rows bits.new events.new changes.new distances.new) out.new) result }
+    ensures { Made (step_effect (given_rows input.now) graph.old (rows bits.old events.old changes.old distances.old)) out.old (lent graph.new (given_rows input.now) (rows bits.new events.new changes.new distances.new) out.new) result }
 {
-    let answer = step(
-        settings, colliders, bodies, proposals, shares, graph, bits, events, changes, distances,
-    );
+    let answer = step(input, graph, bits, events, changes, distances);
     print_answer(answer, events, changes, out)
 }
 
@@ -96,8 +97,12 @@ pub fn play_go(
         proposals,
         shares,
     );
-    play_step(
-        settings, colliders, bodies, proposals, shares, graph, bits, events, changes, distances,
-        out,
-    )
+    let input = StepInput {
+        settings,
+        colliders,
+        bodies,
+        proposals,
+        shares,
+    };
+    play_step(&input, graph, bits, events, changes, distances, out)
 }

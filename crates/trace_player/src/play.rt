@@ -5,27 +5,22 @@ ghost use Rattle.trace_player.specs.Played.{lent, lent_fits, AskedPlayed, LinePl
 
 use crate::additions::{play_addition, request_words};
 use crate::go::play_go;
-use crate::player::{Asked, Player, next_line};
-use contact_range::places::number_at;
+use crate::player::{Player, next_line};
 use contact_types::refusal::Refusal;
 use layout::graph::GRAPH_CAPACITY;
+use step::input::StepInput;
 use step::lengths::lengths_fit;
 use trace_lines::line::LINE_WORDS;
+use trace_lines::line_kind::LineKind;
 use trace_printing::cells::write_refused;
 use trace_printing::lines::PRINTED_SIZE;
+use words::load::load;
 
 // The player for the next line, and how many bytes the line printed, from the start of the row for them.
 #[derive(Clone, Copy)]
 pub struct PlayedLine {
     pub player: Player,
     pub written: usize,
-}
-
-#[derive(Clone, Copy)]
-pub enum PlayAnswer {
-    Played(PlayedLine),
-    Ended,
-    Refused(Refusal),
 }
 
 // What an unreadable line prints.
@@ -47,12 +42,17 @@ fn lent_fit(
 ) -> bool
     ensures { result ≡ lent_fits (lent graph.now (given settings.now colliders.now bodies.now proposals.now shares.now) (rows bits.now events.now changes.now distances.now) out.now) }
 {
-    if !lengths_fit(
-        settings, colliders, bodies, proposals, shares, graph, bits, events, changes, distances,
-    ) {
+    let input = StepInput {
+        settings,
+        colliders,
+        bodies,
+        proposals,
+        shares,
+    };
+    if !lengths_fit(&input, graph, bits, events, changes, distances) {
         return false;
     }
-    out.len() == number_at(graph, GRAPH_CAPACITY) * PRINTED_SIZE
+    out.len() == load::<usize>(graph, GRAPH_CAPACITY) * PRINTED_SIZE
 }
 
 // The line at the player's place is played.
@@ -75,7 +75,7 @@ fn play_asked(
     ensures { AskedPlayed trace.now player (lent graph.old (given settings.old colliders.old bodies.old proposals.old shares.old) (rows bits.old events.old changes.old distances.old) out.old) (lent graph.new (given settings.new colliders.new bodies.new proposals.new shares.new) (rows bits.new events.new changes.new distances.new) out.new) result }
 {
     let mut words = [0u32; LINE_WORDS];
-    let Asked::Line(line) = next_line(trace, player, &mut words) else {
+    let Some(line) = next_line(trace, player, &mut words) else {
         let written = write_refused(out, 0, UNREADABLE);
         return PlayedLine {
             player: Player::at(trace.len()),
@@ -83,30 +83,33 @@ fn play_asked(
         };
     };
     let next = line.player;
-    if line.letter == b'G' {
-        let written = play_go(
-            trace, player, graph, settings, colliders, bodies, proposals, shares, bits, events,
-            changes, distances, out,
-        );
-        return PlayedLine {
+    match line.kind {
+        LineKind::Go => {
+            let written = play_go(
+                trace, player, graph, settings, colliders, bodies, proposals, shares, bits, events,
+                changes, distances, out,
+            );
+            PlayedLine {
+                player: next,
+                written,
+            }
+        }
+        LineKind::Addition => {
+            let request = request_words(words);
+            let written = play_addition(graph, &request, out);
+            PlayedLine {
+                player: next,
+                written,
+            }
+        }
+        _ => PlayedLine {
             player: next,
-            written,
-        };
-    }
-    if line.letter == b'A' {
-        let request = request_words(words);
-        let written = play_addition(graph, &request, out);
-        return PlayedLine {
-            player: next,
-            written,
-        };
-    }
-    PlayedLine {
-        player: next,
-        written: 0,
+            written: 0,
+        },
     }
 }
 
+// The rows stand apart in each call: a `&mut` in a struct hides from the caller what is written through it.
 pub fn play_line(
     trace: &[u8],
     player: Player,
@@ -121,20 +124,20 @@ pub fn play_line(
     changes: &mut [u32],
     distances: &mut [u32],
     out: &mut [u8],
-) -> PlayAnswer
+) -> Result<Option<PlayedLine>, Refusal>
     ensures { LinePlayed trace.now player (lent graph.old (given settings.old colliders.old bodies.old proposals.old shares.old) (rows bits.old events.old changes.old distances.old) out.old) (lent graph.new (given settings.new colliders.new bodies.new proposals.new shares.new) (rows bits.new events.new changes.new distances.new) out.new) result }
 {
     if !lent_fit(
         graph, settings, colliders, bodies, proposals, shares, bits, events, changes, distances,
         out,
     ) {
-        return PlayAnswer::Refused(Refusal::WrongLength);
+        return Err(Refusal::WrongLength);
     }
     if player.place >= trace.len() {
-        return PlayAnswer::Ended;
+        return Ok(None);
     }
-    PlayAnswer::Played(play_asked(
+    Ok(Some(play_asked(
         trace, player, graph, settings, colliders, bodies, proposals, shares, bits, events,
         changes, distances, out,
-    ))
+    )))
 }

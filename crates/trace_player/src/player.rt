@@ -1,8 +1,10 @@
 // Where a trace is played, and what the line there asks for.
 ghost use Rattle.std.specs.Prelude.{◌≡◌};
-ghost use Rattle.trace_player.specs.Player.{player_at, context_of, FollowedBy, AskedAt};
+ghost use Rattle.trace_lines.specs.Items.{letter_of};
+ghost use Rattle.trace_player.specs.Player.{player_at, FollowedBy, AskedAt};
 
-use trace_lines::line::{LINE_WORDS, LineRead, read_line};
+use trace_lines::line::{LINE_WORDS, read_line};
+use trace_lines::line_kind::LineKind;
 
 // The place of the next line; where the lines since the last go begin; whether the line above is a manifold or a point; whether settings
 // stand among those lines; whether all their numbers are in range, those of additions apart.
@@ -15,17 +17,11 @@ pub struct Player {
     pub fits: bool,
 }
 
-// A line's letter, and the player after it.
+// A line's kind, and the player after it.
 #[derive(Clone, Copy)]
 pub struct AskedLine {
-    pub letter: u8,
+    pub kind: LineKind,
     pub player: Player,
-}
-
-#[derive(Clone, Copy)]
-pub enum Asked {
-    Line(AskedLine),
-    Unreadable,
 }
 
 // What the next line may be.
@@ -33,12 +29,6 @@ pub enum Asked {
 pub struct Next {
     pub after_point: bool,
     pub settings: bool,
-}
-
-#[derive(Clone, Copy)]
-pub enum Followed {
-    May(Next),
-    MayNot,
 }
 
 impl Player {
@@ -56,56 +46,54 @@ impl Player {
     }
 }
 
-fn follow(after_point: bool, settings: bool, letter: u8) -> Followed
-    ensures { FollowedBy after_point settings letter result }
+#[tactic(auto, unfolding(trace_rules::specs::Reading::follow))]
+fn follow(after_point: bool, settings: bool, kind: LineKind) -> Option<Next>
+    ensures { FollowedBy after_point settings (letter_of kind) result }
 {
-    if letter == b'P' {
-        if after_point {
-            return Followed::May(Next {
-                after_point: true,
-                settings,
-            });
-        }
-        return Followed::MayNot;
+    match kind {
+        LineKind::Point => after_point.then_some(Next {
+            after_point: true,
+            settings,
+        }),
+        LineKind::Go => settings.then_some(Next {
+            after_point: false,
+            settings: false,
+        }),
+        LineKind::Settings => Some(Next {
+            after_point: false,
+            settings: true,
+        }),
+        LineKind::Manifold => Some(Next {
+            after_point: true,
+            settings,
+        }),
+        _ => Some(Next {
+            after_point: false,
+            settings,
+        }),
     }
-    if letter == b'G' {
-        if settings {
-            return Followed::May(Next {
-                after_point: false,
-                settings: false,
-            });
-        }
-        return Followed::MayNot;
-    }
-    Followed::May(Next {
-        after_point: letter == b'M',
-        settings: settings | (letter == b'T'),
-    })
 }
 
-pub fn next_line(trace: &[u8], player: Player, words: &mut [u32; LINE_WORDS]) -> Asked
+pub fn next_line(trace: &[u8], player: Player, words: &mut [u32; LINE_WORDS]) -> Option<AskedLine>
     ensures { AskedAt trace.now player words.old words.new result }
 {
-    let LineRead::Line(line) = read_line(trace, player.place, words) else {
-        return Asked::Unreadable;
-    };
-    let Followed::May(next) = follow(player.after_point, player.settings, line.letter) else {
-        return Asked::Unreadable;
-    };
-    if line.letter == b'G' {
-        return Asked::Line(AskedLine {
-            letter: line.letter,
+    let line = read_line(trace, player.place, words)?;
+    let next = follow(player.after_point, player.settings, line.kind)?;
+    let kind = line.kind;
+    if kind == LineKind::Go {
+        return Some(AskedLine {
+            kind,
             player: Player::at(line.next),
         });
     }
-    Asked::Line(AskedLine {
-        letter: line.letter,
+    Some(AskedLine {
+        kind,
         player: Player {
             place: line.next,
             stretch: player.stretch,
             after_point: next.after_point,
             settings: next.settings,
-            fits: player.fits & ((line.letter == b'A') | line.fits),
+            fits: player.fits & ((kind == LineKind::Addition) | line.fits),
         },
     })
 }

@@ -1,7 +1,8 @@
 -- The lines of events and changes: their cells, their lengths, one after another. Assumes nothing.
-use Rattle.std.specs.Prelude.{◌≡◌, Bool, true, false, cond, ℕ, ◌+◌, ◌-◌, ◌*◌, ◌≤◌, eqb, length}
+use Rattle.std.specs.Prelude.{◌≡◌, Bool, true, false, cond, ℕ, ◌+◌, ◌*◌, ◌≤◌, ◌<◌, eqb, length, take, get_or}
 use Rattle.std.proofs.Math.Path.{refl, ap}
-use Rattle.std.proofs.Common.{sym, subst, ◌∙◌, add-one, eq-eqb, ne_eqb, length-append}
+use Rattle.std.proofs.Common.{sym, subst, ◌∙◌, add-one, add_assoc, eq-eqb, ne_eqb, length-append, length-take}
+use Rattle.std.proofs.Math.Seq.{take-suc, take_all}
 use mathlib.Core.List.{List, [], ◌∷◌, ◌++◌, map, map-append, append_assoc, append-nil}
 use native.Mathlib.Omega.{arith}
 use Rattle.std.proofs.lemmas.List.{length-map}
@@ -10,11 +11,12 @@ use Rattle.rows.specs.EachLaws.{each_append}
 use Rattle.rows.specs.Slots.{upto}
 use Rattle.rows.specs.SlotLaws.{length_upto}
 use Rattle.rules.specs.Status.{Event, started, ended, Change, start, stop, count}
-use Rattle.words.specs.Words.{word_at}
+use Rattle.words.specs.Words.{word_at, if_marked}
 use Rattle.layout.specs.Change.{change_body1, change_body2, change_contact, change_count}
 use Rattle.contact_records.specs.Recorded.{int_of}
+use Rattle.contact_graph.specs.Calls.{optional}
 use Rattle.step.specs.Read.{names_at, event_at, change_at}
-use Rattle.text.specs.Text.{Written}
+use Rattle.text.specs.Text.{Written, line_feed}
 use Rattle.text.specs.WrittenLaws.{written_then}
 use Rattle.trace_rules.specs.Printed.{Cell, number, cell_text, cells_text, printed_line, optional_cell, event_letter, event_cells, event_text, change_letter, change_text, change_cells}
 use Rattle.trace_printing.specs.CellLaws.{length_cell}
@@ -51,6 +53,11 @@ length_two a b =
 
 pub length_first : (letter : ℕ) (a b : Cell) → length (letter ∷ cell_text a ++ cell_text b) ≤ 2 * cell_room + 1
 length_first letter a b = let h = length_two a b in omega (arith, h)
+
+-- ---- an event's body: its mark and the number behind it
+pub body_read : (row : List ℕ) (at k : ℕ) → if_marked word_at row (at + k) ≡ optional (word_at row (at + k)) (word_at row (at + (k + 1)))
+unfolding if_marked
+body_read row at k = ap (λ (n : ℕ). optional (word_at row (at + k)) (word_at row n)) (add_assoc at k 1)
 
 -- ---- an event's line, whichever its kind
 pub event_line : (row : List ℕ) (at : ℕ) → event_text (event_at row at) ≡ printed_line event_letter (event_cells (cond (eqb (word_at row at) 0) 0 1) (names_at row at))
@@ -144,3 +151,48 @@ module _ {A : Type 0} (text : A → List ℕ) (read : ℕ → A) (room : ℕ) (s
         lines = subst (λ (ws : List ℕ). Written out at ws out'' r) (sym (next_text k)) (written_then (each text (map read (upto k))) (text (read k)) w.lines s);
         below = omega (arith, s.count, w.below, h);
       }
+
+-- ---- a line written cell by cell
+length_each : (cs : List Cell) → length (each cell_text cs) ≤ length cs * cell_room
+length_each [] = omega arith
+length_each (c ∷ cs) =
+    let a = length-append (cell_text c) (each cell_text cs) in
+    let h = length_cell c in
+    let r = length_each cs in
+    omega (arith, a, h, r)
+
+cells_each : (cs : List Cell) → cells_text cs ≡ each cell_text cs ++ line_feed ∷ []
+unfolding cells_text
+cells_each [] = refl
+cells_each (c ∷ cs) = ap (λ (ws : List ℕ). cell_text c ++ ws) (cells_each cs) ∙ sym (append_assoc (cell_text c) (each cell_text cs) (line_feed ∷ []))
+
+-- the letter and the first k cells are written
+abbrev pub CellsWritten : List ℕ → ℕ → ℕ → List Cell → ℕ → List ℕ → ℕ → Type 0
+CellsWritten out at letter cs k out' next = Written out at (letter ∷ each cell_text (take k cs)) out' next
+
+module _ {out out' : List ℕ} {at letter next : ℕ} (cs : List Cell) where
+  pub cells_room : (k : ℕ) → CellsWritten out at letter cs k out' next → k ≤ length cs → next ≤ at + (k * cell_room + 1)
+  cells_room k w h = let l = length_each (take k cs) in let t : length (take k cs) ≡ k = simp length-take (omega arith) in omega (arith, w.count, l, t)
+
+  pub cells_next : (k : ℕ) (c : Cell) {out'' : List ℕ} {r : ℕ} → CellsWritten out at letter cs k out' next → k < length cs → c ≡ get_or cs k c → Written out' next (cell_text c) out'' r
+      → CellsWritten out at letter cs (k + 1) out'' r
+  cells_next k c {out''} {r} w h e v =
+      subst (λ (ws : List ℕ). Written out at (letter ∷ ws) out'' r) (sym (ap (each cell_text) (rw (add-one, take-suc cs k c h, ← e)) ∙ each_append cell_text (take k cs) (c ∷ []) ∙ ap (λ (ws : List ℕ). each cell_text (take k cs) ++ ws) (append-nil (cell_text c))))
+      (written_then (letter ∷ each cell_text (take k cs)) (cell_text c) w v)
+
+  pub cells_ended : {k : ℕ} {out'' : List ℕ} {r : ℕ} → CellsWritten out at letter cs k out' next → length cs ≤ k → Written out' next (line_feed ∷ []) out'' r → Written out at (printed_line letter cs) out'' r
+  cells_ended {k} {out''} {r} w h v =
+      subst (λ (ws : List ℕ). Written out at (letter ∷ ws) out'' r) (ap (λ (us : List Cell). each cell_text us ++ line_feed ∷ []) (take_all k cs h) ∙ sym (cells_each cs))
+      (written_then (letter ∷ each cell_text (take k cs)) (line_feed ∷ []) w v)
+
+-- an event's line, from its cells
+pub event_printed : (row : List ℕ) (at : ℕ) {kind contact collider1 collider2 : ℕ} {x y : Cell}
+    → kind ≡ cond (eqb (word_at row at) 0) 0 1 → contact ≡ (names_at row at).id → collider1 ≡ (names_at row at).collider1 → collider2 ≡ (names_at row at).collider2
+    → x ≡ optional_cell (names_at row at).body1 → y ≡ optional_cell (names_at row at).body2
+    → printed_line event_letter (number kind ∷ number contact ∷ number collider1 ∷ number collider2 ∷ x ∷ y ∷ []) ≡ event_text (event_at row at)
+event_printed row at ek ec e1 e2 ex ey = rw (ek, ec, e1, e2, ex, ey) (sym (event_line row at))
+
+-- a change's line, from its cells
+pub change_printed : {cs : List Cell} (c : Change) → cs ≡ change_cells c → printed_line change_letter cs ≡ change_text c
+unfolding change_text
+change_printed c e = ap (printed_line change_letter) e

@@ -1,10 +1,9 @@
 -- Lines one after another, and lines that change nothing of what a step is given. Assumes nothing.
-use Rattle.std.specs.Prelude.{ℕ, ◌*◌, ◌≡◌, Bool, true, false, cond, ◌&&◌, ◌||◌, eqb, drop}
+use Rattle.std.specs.Prelude.{ℕ, ◌*◌, ◌≡◌, Bool, true, false, cond, ◌&&◌, ◌||◌, eqb, drop, None, Some}
 use Rattle.std.proofs.Math.Path.{refl}
 use Rattle.std.proofs.Common.{sym, ap, ◌∙◌, eqb-true}
 use Rattle.std.proofs.Math.Bool.{and-true, or-true}
 use mathlib.Core.List.{List, [], ◌∷◌, ◌++◌}
-use Rattle.std.proofs.Math.Option.{none, some}
 use Rattle.rows.specs.Rows.{put}
 use Rattle.layout.specs.Body.{body_size, bodies_length}
 use Rattle.layout.specs.Collider.{collider_size, colliders_length}
@@ -62,7 +61,7 @@ idle_fits l e fits = ap (λ (t : Bool). fits && (is addition_letter l || t)) e �
 abbrev pub proposing_by : (hook manifold point names : Bool) → Line → Proposing → Proposing
 proposing_by hook manifold point names l s =
     cond hook (cond names (record { hook = word_of l 2; closed = s.closed; last = s.last }) s)
-    (cond manifold (record { hook = s.hook; closed = s.closed ++ at_most_one s.last; last = cond names (some (new_manifold l)) none })
+    (cond manifold (record { hook = s.hook; closed = s.closed ++ at_most_one s.last; last = cond names (Some (new_manifold l)) None })
     (cond point (record { hook = s.hook; closed = s.closed; last = with_point s.last l }) s))
 
 pub proposing_by_lem : (a b : ℕ) (s : Proposing) (l : Line) → proposing_after a b s l ≡ proposing_by (is hook_letter l) (is manifold_letter l) (is point_letter l) (of_pair a b l) l s

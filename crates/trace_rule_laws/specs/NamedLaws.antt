@@ -2,11 +2,11 @@
 -- Assumes nothing.
 use Prim.Native.Nat.{ℕ, zero, suc, ◌+◌, ◌<◌}
 use Rattle.std.proofs.Common.{zero-add, arith, sym, subst, ◌∙◌, true≢false, eqb-true, get_or-append-add}
-use Rattle.std.specs.Prelude.{◌≡◌, Bool, cond, ◌&&◌, ◌||◌, eqb, get_or}
+use Rattle.std.proofs.lemmas.Option.{none-some}
+use Rattle.std.specs.Prelude.{◌≡◌, Bool, cond, ◌&&◌, ◌||◌, eqb, get_or, Option, None, Some}
 use Rattle.std.proofs.Math.Path.{refl, ap}
 use Rattle.std.proofs.Math.Bool.{true, false, and-true}
 use mathlib.Core.List.{List, [], ◌∷◌, ◌++◌}
-use Rattle.std.proofs.Math.Option.{Option, none, some, none-ne-some}
 use Rattle.std.proofs.Math.ListN.{length}
 use Rattle.rows.specs.Rows.{put}
 use Rattle.rows.specs.Laws.{length_put, get_d_put}
@@ -27,94 +27,94 @@ use Rattle.trace_rule_laws.specs.Named.{fixed_shape, Named}
 
 -- ---- a setting that is not said
 
-pub setting_missing : (rest : List ℕ) → read_item setting (line_feed ∷ rest) ≡ some (record { value = record { words = 1 ∷ 0 ∷ []; fits = true }; rest = line_feed ∷ rest })
+pub setting_missing : (rest : List ℕ) → read_item setting (line_feed ∷ rest) ≡ Some (record { value = record { words = 1 ∷ 0 ∷ []; fits = true }; rest = line_feed ∷ rest })
 unfolding read_item end_read expect
 setting_missing rest = refl
 
-pub setting_dash : (rest : List ℕ) → read_item setting (tab ∷ dash ∷ rest) ≡ some (record { value = record { words = 1 ∷ 0 ∷ []; fits = true }; rest = rest })
+pub setting_dash : (rest : List ℕ) → read_item setting (tab ∷ dash ∷ rest) ≡ Some (record { value = record { words = 1 ∷ 0 ∷ []; fits = true }; rest = rest })
 unfolding read_item end_read dash_read expect
 setting_dash rest = refl
 
 -- ---- one that is said
 
 -- a number is no line's end, and no dash
-said_no_end : (xs : List ℕ) (v : Taken ℕ) → read_kind mark xs ≡ some v → end_read xs ≡ none
+said_no_end : (xs : List ℕ) (v : Taken ℕ) → read_kind mark xs ≡ Some v → end_read xs ≡ None
 unfolding read_kind end_read expect
 said_no_end [] v e = refl
 said_no_end (x ∷ xs) v e = by (eqb x tab) refl e
   where
-    by : (b : Bool) → eqb x tab ≡ b → cond b (decimal xs) none ≡ some v → cond (eqb x line_feed) (some (x ∷ xs)) none ≡ none
-    by true t f = ap (λ (n : ℕ). cond (eqb n line_feed) (some (n ∷ xs)) none) (eqb-true x tab t)
-    by false t f = absurd (none-ne-some v f)
+    by : (b : Bool) → eqb x tab ≡ b → cond b (decimal xs) None ≡ Some v → cond (eqb x line_feed) (Some (x ∷ xs)) None ≡ None
+    by true t f = ap (λ (n : ℕ). cond (eqb n line_feed) (Some (n ∷ xs)) None) (eqb-true x tab t)
+    by false t f = absurd (none-some v f)
 
-said_no_dash : (xs : List ℕ) (v : Taken ℕ) → read_kind mark xs ≡ some v → dash_read xs ≡ none
+said_no_dash : (xs : List ℕ) (v : Taken ℕ) → read_kind mark xs ≡ Some v → dash_read xs ≡ None
 unfolding read_kind dash_read expect decimal decimal_from
 said_no_dash [] v e = refl
 said_no_dash (x ∷ []) v e = by (eqb x tab)
   where
-    by : (b : Bool) → ◌≡◌ {A = Option (List ℕ)} (cond b none none) none
+    by : (b : Bool) → ◌≡◌ {A = Option (List ℕ)} (cond b None None) None
     by true = refl
     by false = refl
 said_no_dash (x ∷ y ∷ xs) v e = by (eqb x tab) (eqb y dash) refl e
   where
-    by : (b d : Bool) → eqb y dash ≡ d → cond b (decimal (y ∷ xs)) none ≡ some v → cond b (cond d (some xs) none) none ≡ none
-    by true true t f = absurd (none-ne-some v (sym (ap (λ (n : ℕ). decimal (n ∷ xs)) (eqb-true y dash t)) ∙ f))
+    by : (b d : Bool) → eqb y dash ≡ d → cond b (decimal (y ∷ xs)) None ≡ Some v → cond b (cond d (Some xs) None) None ≡ None
+    by true true t f = absurd (none-some v (sym (ap (λ (n : ℕ). decimal (n ∷ xs)) (eqb-true y dash t)) ∙ f))
     by true false t f = refl
     by false d t f = refl
 
-pub setting_said : (xs : List ℕ) (v : Taken ℕ) → read_kind mark xs ≡ some v
-    → read_item setting xs ≡ some (record { value = record { words = 1 ∷ v.value ∷ []; fits = kind_fits mark v.value }; rest = v.rest })
+pub setting_said : (xs : List ℕ) (v : Taken ℕ) → read_kind mark xs ≡ Some v
+    → read_item setting xs ≡ Some (record { value = record { words = 1 ∷ v.value ∷ []; fits = kind_fits mark v.value }; rest = v.rest })
 unfolding read_item read_kinds
 setting_said xs v e =
     rw (said_no_end xs v e, said_no_dash xs v e, e)
-    (ap (λ (b : Bool). some (record { value = record { words = 1 ∷ v.value ∷ []; fits = b }; rest = v.rest })) (and-true (kind_fits mark v.value)))
+    (ap (λ (b : Bool). Some (record { value = record { words = 1 ∷ v.value ∷ []; fits = b }; rest = v.rest })) (and-true (kind_fits mark v.value)))
 
 -- ---- T, from what its fixed fields read to
 
-settings_read : (xs ys rest : List ℕ) (f g : Fields) → read_items fixed_shape xs ≡ some (record { value = f; rest = ys }) → read_item setting ys ≡ some (record { value = g; rest = line_feed ∷ rest })
-    → read_line (settings_letter ∷ xs) ≡ some (record { value = record { letter = settings_letter; words = f.words ++ (g.words ++ []); fits = f.fits && (g.fits && true) }; rest = rest })
+settings_read : (xs ys rest : List ℕ) (f g : Fields) → read_items fixed_shape xs ≡ Some (record { value = f; rest = ys }) → read_item setting ys ≡ Some (record { value = g; rest = line_feed ∷ rest })
+    → read_line (settings_letter ∷ xs) ≡ Some (record { value = record { letter = settings_letter; words = f.words ++ (g.words ++ []); fits = f.fits && (g.fits && true) }; rest = rest })
 unfolding read_line shape read_items expect
 settings_read xs ys rest f g e h = ap ended (items_append fixed_shape (setting ∷ []) xs) ∙ rw (e, h)
   where
     ended : Option (Taken Fields) → Option (Taken Line)
-    ended o = after o (λ t. after (expect line_feed some t.rest) (λ rest. some (record { value = record { letter = settings_letter; words = t.value.words; fits = t.value.fits }; rest = rest })))
+    ended o = after o (λ t. after (expect line_feed Some t.rest) (λ rest. Some (record { value = record { letter = settings_letter; words = t.value.words; fits = t.value.fits }; rest = rest })))
 
 -- it ends there
-pub settings_missing : (xs rest : List ℕ) (f : Fields) → read_items fixed_shape xs ≡ some (record { value = f; rest = line_feed ∷ rest })
-    → read_line (settings_letter ∷ xs) ≡ some (record { value = record { letter = settings_letter; words = f.words ++ 1 ∷ 0 ∷ []; fits = f.fits }; rest = rest })
+pub settings_missing : (xs rest : List ℕ) (f : Fields) → read_items fixed_shape xs ≡ Some (record { value = f; rest = line_feed ∷ rest })
+    → read_line (settings_letter ∷ xs) ≡ Some (record { value = record { letter = settings_letter; words = f.words ++ 1 ∷ 0 ∷ []; fits = f.fits }; rest = rest })
 settings_missing xs rest f e =
     settings_read xs (line_feed ∷ rest) rest f unsaid e (setting_missing rest)
-    ∙ ap (λ (b : Bool). some (record { value = record { letter = settings_letter; words = f.words ++ 1 ∷ 0 ∷ []; fits = b }; rest = rest })) (and-true f.fits)
+    ∙ ap (λ (b : Bool). Some (record { value = record { letter = settings_letter; words = f.words ++ 1 ∷ 0 ∷ []; fits = b }; rest = rest })) (and-true f.fits)
 
 -- a dash, and it ends: the same line
-pub settings_dash : (xs rest : List ℕ) (f : Fields) → read_items fixed_shape xs ≡ some (record { value = f; rest = tab ∷ dash ∷ line_feed ∷ rest })
-    → read_line (settings_letter ∷ xs) ≡ some (record { value = record { letter = settings_letter; words = f.words ++ 1 ∷ 0 ∷ []; fits = f.fits }; rest = rest })
+pub settings_dash : (xs rest : List ℕ) (f : Fields) → read_items fixed_shape xs ≡ Some (record { value = f; rest = tab ∷ dash ∷ line_feed ∷ rest })
+    → read_line (settings_letter ∷ xs) ≡ Some (record { value = record { letter = settings_letter; words = f.words ++ 1 ∷ 0 ∷ []; fits = f.fits }; rest = rest })
 settings_dash xs rest f e =
     settings_read xs (tab ∷ dash ∷ line_feed ∷ rest) rest f unsaid e (setting_dash (line_feed ∷ rest))
-    ∙ ap (λ (b : Bool). some (record { value = record { letter = settings_letter; words = f.words ++ 1 ∷ 0 ∷ []; fits = b }; rest = rest })) (and-true f.fits)
+    ∙ ap (λ (b : Bool). Some (record { value = record { letter = settings_letter; words = f.words ++ 1 ∷ 0 ∷ []; fits = b }; rest = rest })) (and-true f.fits)
 
 -- a number v, and it ends
-pub settings_said : (xs ys rest : List ℕ) (f : Fields) (v : ℕ) → read_items fixed_shape xs ≡ some (record { value = f; rest = ys }) → read_kind mark ys ≡ some (record { value = v; rest = line_feed ∷ rest })
-    → read_line (settings_letter ∷ xs) ≡ some (record { value = record { letter = settings_letter; words = f.words ++ 1 ∷ v ∷ []; fits = f.fits && kind_fits mark v }; rest = rest })
+pub settings_said : (xs ys rest : List ℕ) (f : Fields) (v : ℕ) → read_items fixed_shape xs ≡ Some (record { value = f; rest = ys }) → read_kind mark ys ≡ Some (record { value = v; rest = line_feed ∷ rest })
+    → read_line (settings_letter ∷ xs) ≡ Some (record { value = record { letter = settings_letter; words = f.words ++ 1 ∷ v ∷ []; fits = f.fits && kind_fits mark v }; rest = rest })
 settings_said xs ys rest f v e h =
     settings_read xs ys rest f (record { words = 1 ∷ v ∷ []; fits = kind_fits mark v }) e (setting_said ys (record { value = v; rest = line_feed ∷ rest }) h)
-    ∙ ap (λ (b : Bool). some (record { value = record { letter = settings_letter; words = f.words ++ 1 ∷ v ∷ []; fits = f.fits && b }; rest = rest })) (and-true (kind_fits mark v))
+    ∙ ap (λ (b : Bool). Some (record { value = record { letter = settings_letter; words = f.words ++ 1 ∷ v ∷ []; fits = f.fits && b }; rest = rest })) (and-true (kind_fits mark v))
 
 -- ---- a setting's presence mark
 
 abbrev NamedAt : ℕ → Option (Taken Fields) → Type 0
-NamedAt k none = Unit {0}
-NamedAt k (some t) = get_or t.value.words k 0 ≡ 1
+NamedAt k None = Unit {0}
+NamedAt k (Some t) = get_or t.value.words k 0 ≡ 1
 
 setting_named : (xs : List ℕ) → NamedAt 0 (read_item setting xs)
 unfolding read_item
 setting_named xs = by (end_read xs) (dash_read xs) (read_kinds (mark ∷ []) xs)
   where
     by : (e d : Option (List ℕ)) (o : Option (Taken Fields)) → NamedAt 0 (default_or unsaid e (default_or unsaid d (after o (joined_taken present))))
-    by (some rest) d o = refl
-    by none (some rest) o = refl
-    by none none (some t) = refl
-    by none none none = tt
+    by (Some rest) d o = refl
+    by None (Some rest) o = refl
+    by None None (Some t) = refl
+    by None None None = tt
 
 first_kept : (us ws : List ℕ) → get_or us 0 0 ≡ 1 → get_or (us ++ ws) 0 0 ≡ 1
 first_kept [] ws e = absurd (omega (arith, e))
@@ -126,23 +126,23 @@ unfolding read_items items_width
 items_named [] js xs = first (read_item setting xs) (setting_named xs)
   where
     others : (a : Fields) (o : Option (Taken Fields)) → get_or a.words 0 0 ≡ 1 → NamedAt 0 (after o (joined_taken a))
-    others a none h = tt
-    others a (some t) h = first_kept a.words t.value.words h
+    others a None h = tt
+    others a (Some t) h = first_kept a.words t.value.words h
 
     first : (o : Option (Taken Fields)) → NamedAt 0 o → NamedAt 0 (after o (λ t. after (read_items js t.rest) (joined_taken t.value)))
-    first none h = tt
-    first (some t) h = others t.value (read_items js t.rest) h
+    first None h = tt
+    first (Some t) h = others t.value (read_items js t.rest) h
 items_named (i ∷ is) js xs = first (read_item i xs) (item_sized i xs) (items_named is js)
   where
     others : (a : Fields) (o : Option (Taken Fields)) → length a.words ≡ item_width i → NamedAt (items_width is) o → NamedAt (item_width i + items_width is) (after o (joined_taken a))
-    others a none e h = tt
-    others a (some t) e h =
+    others a None e h = tt
+    others a (Some t) e h =
         ap (λ (n : ℕ). get_or (a.words ++ t.value.words) (n + items_width is) 0) (sym e) ∙ get_or-append-add a.words t.value.words (items_width is) 0 ∙ h
 
     first : (o : Option (Taken Fields)) → Sized (item_width i) o → ((ys : List ℕ) → NamedAt (items_width is) (read_items (is ++ setting ∷ js) ys))
         → NamedAt (item_width i + items_width is) (after o (λ t. after (read_items (is ++ setting ∷ js) t.rest) (joined_taken t.value)))
-    first none s h = tt
-    first (some t) s h = others t.value (read_items (is ++ setting ∷ js) t.rest) s (h t.rest)
+    first None s h = tt
+    first (Some t) s h = others t.value (read_items (is ++ setting ∷ js) t.rest) s (h t.rest)
 
 -- ---- the settings' row of a step, whose word k every T makes 1
 
@@ -150,12 +150,12 @@ abbrev LineNamed : ℕ → Line → Type 0
 LineNamed k l = is settings_letter l ≡ true → word_of l k ≡ 1
 
 abbrev AnyNamed : ℕ → Option (Taken Line) → Type 0
-AnyNamed k none = Unit {0}
-AnyNamed k (some t) = LineNamed k t.value
+AnyNamed k None = Unit {0}
+AnyNamed k (Some t) = LineNamed k t.value
 
 abbrev ShapeNamed : ℕ → Option (List Item) → Type 0
-ShapeNamed k none = Unit {0}
-ShapeNamed k (some is) = (xs : List ℕ) → NamedAt k (read_items is xs)
+ShapeNamed k None = Unit {0}
+ShapeNamed k (Some is) = (xs : List ℕ) → NamedAt k (read_items is xs)
 
 any_named : (k : ℕ) → ShapeNamed k (shape settings_letter) → (xs : List ℕ) → AnyNamed k (read_line xs)
 unfolding read_line
@@ -163,19 +163,19 @@ any_named k s [] = tt
 any_named k s (l ∷ xs) = shaped (shape l) (λ e. subst (λ (m : ℕ). ShapeNamed k (shape m)) (sym (eqb-true l settings_letter e)) s)
   where
     ended : (t : Fields) (o : Option (List ℕ)) → (eqb l settings_letter ≡ true → get_or t.words k 0 ≡ 1)
-        → AnyNamed k (after o (λ rest. some (record { value = record { letter = l; words = t.words; fits = t.fits }; rest = rest })))
-    ended t none h = tt
-    ended t (some rest) h = h
+        → AnyNamed k (after o (λ rest. Some (record { value = record { letter = l; words = t.words; fits = t.fits }; rest = rest })))
+    ended t None h = tt
+    ended t (Some rest) h = h
 
     read : (o : Option (Taken Fields)) → (eqb l settings_letter ≡ true → NamedAt k o)
-        → AnyNamed k (after o (λ t. after (expect line_feed some t.rest) (λ rest. some (record { value = record { letter = l; words = t.value.words; fits = t.value.fits }; rest = rest }))))
-    read none h = tt
-    read (some t) h = ended t.value (expect line_feed some t.rest) h
+        → AnyNamed k (after o (λ t. after (expect line_feed Some t.rest) (λ rest. Some (record { value = record { letter = l; words = t.value.words; fits = t.value.fits }; rest = rest }))))
+    read None h = tt
+    read (Some t) h = ended t.value (expect line_feed Some t.rest) h
 
     shaped : (o : Option (List Item)) → (eqb l settings_letter ≡ true → ShapeNamed k o)
-        → AnyNamed k (after o (λ is. after (read_items is xs) (λ t. after (expect line_feed some t.rest) (λ rest. some (record { value = record { letter = l; words = t.value.words; fits = t.value.fits }; rest = rest })))))
-    shaped none h = tt
-    shaped (some is) h = read (read_items is xs) (λ e. h e xs)
+        → AnyNamed k (after o (λ is. after (read_items is xs) (λ t. after (expect line_feed Some t.rest) (λ rest. Some (record { value = record { letter = l; words = t.value.words; fits = t.value.fits }; rest = rest })))))
+    shaped None h = tt
+    shaped (Some is) h = read (read_items is xs) (λ e. h e xs)
 
 pub fold_long : (row : List ℕ) (ls : List Line) → length (fold settings_after row ls) ≡ length row
 unfolding fold settings_after
@@ -187,7 +187,7 @@ fold_long row (l ∷ ls) = fold_long (settings_after row l) ls ∙ picked (is se
     picked false = refl
 
 module _ (k : ℕ) (inside : k < settings_length) (s : ShapeNamed k (shape settings_letter)) where
-  line_named : (xs : List ℕ) (t : Taken Line) → read_line xs ≡ some t → LineNamed k t.value
+  line_named : (xs : List ℕ) (t : Taken Line) → read_line xs ≡ Some t → LineNamed k t.value
   line_named xs t e = subst (AnyNamed k) e (any_named k s xs)
 
   -- the row after the lines since the last go
@@ -195,7 +195,7 @@ module _ (k : ℕ) (inside : k < settings_length) (s : ShapeNamed k (shape setti
   row_after since = fold settings_after (zeros settings_length) since
 
   -- with one line more: a T since the last go, or this one
-  row_named : (since : List Line) (xs : List ℕ) (t : Taken Line) (had : Bool) → read_line xs ≡ some t → (had ≡ true → word_at (row_after since) k ≡ 1) → (had || is settings_letter t.value) ≡ true
+  row_named : (since : List Line) (xs : List ℕ) (t : Taken Line) (had : Bool) → read_line xs ≡ Some t → (had ≡ true → word_at (row_after since) k ≡ 1) → (had || is settings_letter t.value) ≡ true
       → word_at (row_after (since ++ t.value ∷ [])) k ≡ 1
   unfolding fold settings_after
   row_named since xs t had e h o =
@@ -225,18 +225,18 @@ module _ (k : ℕ) (inside : k < settings_length) (s : ShapeNamed k (shape setti
 
   -- the context that a line leads to: a go comes with a named row, and is followed by none; behind another line the row is named where a T stands
   abbrev Led : List Line → Line → Option Context → Type 0
-  Led since l none = Unit {0}
-  Led since l (some d) =
+  Led since l None = Unit {0}
+  Led since l (Some d) =
       (is go_letter l ≡ true → (word_at (row_after since) k ≡ 1) × (d.settings ≡ false)) × (is go_letter l ≡ false → d.settings ≡ true → word_at (row_after (since ++ l ∷ [])) k ≡ 1)
 
-  line_leads : (c : Context) (since : List Line) (xs : List ℕ) (t : Taken Line) → read_line xs ≡ some t → (c.settings ≡ true → word_at (row_after since) k ≡ 1) → Led since t.value (follow c t.value)
+  line_leads : (c : Context) (since : List Line) (xs : List ℕ) (t : Taken Line) → read_line xs ≡ Some t → (c.settings ≡ true → word_at (row_after since) k ≡ 1) → Led since t.value (follow c t.value)
   unfolding follow
   line_leads c since xs t e h = by (is point_letter t.value) (is go_letter t.value) refl refl c.after_point c.settings h
     where
       by : (p g : Bool) → is point_letter t.value ≡ p → is go_letter t.value ≡ g → (above had : Bool) → (had ≡ true → word_at (row_after since) k ≡ 1)
           → Led since t.value
-          (cond p (cond above (some (record { after_point = above; settings = had })) none)
-          (cond g (cond had (some beginning) none) (some (record { after_point = is manifold_letter t.value; settings = had || is settings_letter t.value }))))
+          (cond p (cond above (Some (record { after_point = above; settings = had })) None)
+          (cond g (cond had (Some beginning) None) (Some (record { after_point = is manifold_letter t.value; settings = had || is settings_letter t.value }))))
       by true g p q false had h = tt
       by true g p q true had h =
           (λ r. absurd (true≢false (sym r ∙ other_letter point_letter go_letter t.value p refl)), λ r o. row_named since xs t had e h (ap (λ (b : Bool). b || is settings_letter t.value) o))
@@ -253,16 +253,16 @@ module _ (k : ℕ) (inside : k < settings_length) (s : ShapeNamed k (shape setti
       followed : (t : Taken Line) (o : Option Context) → Led since t.value o
           → ((d : Context) (ys : List ℕ) (ls : List Line) → (d.settings ≡ true → word_at (row_after ls) k ≡ 1) → Named k (entries_from ls (read_lines most d ys).lines))
           → Named k (entries_from since (or_unreadable o (λ d. begins t.value (read_lines most d t.rest))).lines)
-      followed t none a rec = tt
-      followed t (some d) a rec =
+      followed t None a rec = tt
+      followed t (Some d) a rec =
           entry_named since t.value (read_lines most d t.rest).lines (λ g. let b = a.0 g in (b.0, rec d t.rest [] (λ r. absurd (true≢false (sym r ∙ b.1)))))
           (λ g. rec d t.rest (since ++ t.value ∷ []) (a.1 g))
 
       read : (o : Option (Taken Line)) → read_line (x ∷ xs) ≡ o
           → ((d : Context) (ys : List ℕ) (ls : List Line) → (d.settings ≡ true → word_at (row_after ls) k ≡ 1) → Named k (entries_from ls (read_lines most d ys).lines))
           → Named k (entries_from since (or_unreadable o (λ t. or_unreadable (follow c t.value) (λ d. begins t.value (read_lines most d t.rest)))).lines)
-      read none e rec = tt
-      read (some t) e rec = followed t (follow c t.value) (line_leads c since (x ∷ xs) t e h) rec
+      read None e rec = tt
+      read (Some t) e rec = followed t (follow c t.value) (line_leads c since (x ∷ xs) t e h) rec
 
 -- ---- the matching setting
 

@@ -1,9 +1,8 @@
 -- The order in which H and M lines name their two colliders has no effect: `pair_order`. Assumes nothing.
-use Rattle.std.specs.Prelude.{ℕ, ◌≡◌, Bool, true, false, cond, ◌&&◌, ◌||◌, List, [], ◌∷◌, ◌++◌, eqb, get_or, drop}
+use Rattle.std.specs.Prelude.{ℕ, ◌≡◌, Bool, true, false, cond, ◌&&◌, ◌||◌, List, [], ◌∷◌, ◌++◌, eqb, get_or, drop, None, Some}
 use Rattle.std.proofs.Math.Path.{refl}
 use Rattle.std.proofs.Common.{sym, ap, ◌∙◌, true≢false}
 use Rattle.std.proofs.Math.Bool.{or_comm}
-use Rattle.std.proofs.Math.Option.{none, some}
 use Rattle.layout.specs.Body.{body_size, bodies_length}
 use Rattle.layout.specs.Collider.{collider_size, colliders_length}
 use Rattle.layout.specs.Settings.{settings_length}
@@ -66,7 +65,7 @@ module _ (l : Line) (pair : names_pair l ≡ true) where
       let m = is manifold_letter l in
       proposing_by_lem a b s l ∙ (λ i. proposing_by h m (e i) (of_pair a b l) l s)
       ∙ (λ i. cond h (cond (names_turned a b l.words i) (record { hook = answer_turned l.words i; closed = s.closed; last = s.last }) s)
-      (cond m (record { hook = s.hook; closed = s.closed ++ at_most_one s.last; last = cond (names_turned a b l.words i) (some (record { normal = normal_turned l.words i; points = [] })) none }) s))
+      (cond m (record { hook = s.hook; closed = s.closed ++ at_most_one s.last; last = cond (names_turned a b l.words i) (Some (record { normal = normal_turned l.words i; points = [] })) None }) s))
       ∙ (λ i. proposing_by h m (sym e i) (of_pair a b (exchanged l)) (exchanged l) s) ∙ sym (proposing_by_lem a b s (exchanged l))
 
 -- ---- lists of lines

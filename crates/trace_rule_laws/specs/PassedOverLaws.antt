@@ -1,10 +1,9 @@
 -- At a go, the lines of a pair that is not active change nothing: `passed_over`. Assumes nothing.
-use Rattle.std.specs.Prelude.{ℕ, zero, suc, ◌+◌, ◌*◌, ◌<◌, ◌≡◌, Bool, cond, ◌&&◌, eqb, length, get_or, drop}
+use Rattle.std.specs.Prelude.{ℕ, zero, suc, ◌+◌, ◌*◌, ◌<◌, ◌≡◌, Bool, cond, ◌&&◌, eqb, length, get_or, drop, None, Some}
 use Rattle.std.proofs.Common.{suc-le-suc, zero-lt-suc, subst, ◌∙◌, true≢false}
 use Rattle.std.proofs.Math.Path.{refl, sym, ap}
 use Rattle.std.proofs.Math.Bool.{true, false}
 use mathlib.Core.List.{List, [], ◌∷◌, ◌++◌, append-nil}
-use Rattle.std.proofs.Math.Option.{none, some}
 use Rattle.rows.specs.Rows.{put}
 use Rattle.layout.specs.Body.{body_size, bodies_length}
 use Rattle.layout.specs.Collider.{collider_size, colliders_length}
@@ -113,24 +112,24 @@ module _ (a b : ℕ) where
       by true true false names d o rec = absurd (true≢false (d refl))
       by true false false names d o rec = rec (proposing_by true false false names l s) (proposing_by true false false names l t) o (answered names)
       by false true false names d o rec =
-          λ i. proposed (fold (proposing_after a b) (record { hook = e.hook i; closed = e.manifolds i; last = cond names (some (record { normal = drop 2 l.words; points = [] })) none }) ls)
+          λ i. proposed (fold (proposing_after a b) (record { hook = e.hook i; closed = e.manifolds i; last = cond names (Some (record { normal = drop 2 l.words; points = [] })) None }) ls)
       by false false false names d o rec = rec s t o e
 
   -- points where no manifold is open
-  unjoined : (s : Proposing) → s.last ≡ none → {ls : List Line} → Points ls → fold (proposing_after a b) s ls ≡ s
+  unjoined : (s : Proposing) → s.last ≡ None → {ls : List Line} → Points ls → fold (proposing_after a b) s ls ≡ s
   unfolding fold
   unjoined s n end = refl
   unjoined s n (point {l} {ls} p f ps) =
       ap (λ (u : Proposing). fold (proposing_after a b) u ls) (still s n) ∙ unjoined s n ps
     where
-      still : (s : Proposing) → s.last ≡ none → proposing_after a b s l ≡ s
+      still : (s : Proposing) → s.last ≡ None → proposing_after a b s l ≡ s
       still s n =
           proposing_by_lem a b s l ∙ (λ i. proposing_by (other_letter point_letter hook_letter l p refl i) (other_letter point_letter manifold_letter l p refl i) (p i) (of_pair a b l) l s)
           ∙ (λ i. record { hook = s.hook; closed = s.closed; last = with_point (n i) l }) ∙ (λ i. record { hook = s.hook; closed = s.closed; last = sym n i })
 
   -- the pair's manifolds so far, none of them open
   abbrev closed_up : Proposing → Proposing
-  closed_up s = record { hook = s.hook; closed = s.closed ++ at_most_one s.last; last = none }
+  closed_up s = record { hook = s.hook; closed = s.closed ++ at_most_one s.last; last = None }
 
   manifold_passed : (s : Proposing) (l : Line) {points : List Line} → is manifold_letter l ≡ true → of_pair a b l ≡ false → Points points → fold (proposing_after a b) s (l ∷ points) ≡ closed_up s
   unfolding fold

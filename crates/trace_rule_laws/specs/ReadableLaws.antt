@@ -1,11 +1,10 @@
 -- The lines that a text reads to: a point stands only where the line above is a manifold or a point, and a line has as many words as its letter's record.
 -- So the premises about points and lengths in `passed_over` and `replaced` hold in every trace: `own_points`, `readable_both`. Assumes nothing.
 use Prim.Native.Nat.{ℕ, zero, suc}
-use Rattle.std.specs.Prelude.{◌≡◌, Bool, true, false, cond, ◌&&◌, ◌||◌, length}
+use Rattle.std.specs.Prelude.{◌≡◌, Bool, true, false, cond, ◌&&◌, ◌||◌, length, Option, None, Some}
 use Rattle.std.proofs.Math.Path.{refl}
 use Rattle.std.proofs.Common.{sym, ap, subst, ◌∙◌, true≢false, eqb-true}
 use mathlib.Core.List.{List, [], ◌∷◌, ◌++◌, append_assoc}
-use Rattle.std.proofs.Math.Option.{Option, none, some}
 use Rattle.layout.specs.Body.{body_size}
 use Rattle.layout.specs.Collider.{collider_size}
 use Rattle.layout.specs.Settings.{settings_length}
@@ -27,8 +26,8 @@ line_follows above settings l rest h = by above settings (is point_letter l) (is
     by : (above settings p g : Bool) → is point_letter l ≡ p → is go_letter l ≡ g
         → points_follow above
         (or_unreadable
-        (cond p (cond above (some (record { after_point = above; settings = settings })) none)
-        (cond g (cond settings (some beginning) none) (some (record { after_point = is manifold_letter l; settings = settings || is settings_letter l }))))
+        (cond p (cond above (Some (record { after_point = above; settings = settings })) None)
+        (cond g (cond settings (Some beginning) None) (Some (record { after_point = is manifold_letter l; settings = settings || is settings_letter l }))))
         (λ d. begins l (rest d))).lines ≡ true
     by true settings true g p q = let c : Context = record { after_point = true; settings = settings } in (λ i. cond (p i) (points_follow true (rest c).lines) (points_follow (is manifold_letter l) (rest c).lines)) ∙ h c
     by false settings true g p q = refl
@@ -48,8 +47,8 @@ lines_follow (suc most) c (x ∷ xs) = read (read_line (x ∷ xs)) (lines_follow
   where
     read : (o : Option (Taken Line)) → ((d : Context) (ys : List ℕ) → points_follow d.after_point (read_lines most d ys).lines ≡ true)
         → points_follow c.after_point (or_unreadable o (λ t. or_unreadable (follow c t.value) (λ d. begins t.value (read_lines most d t.rest)))).lines ≡ true
-    read none h = refl
-    read (some t) h = line_follows c.after_point c.settings t.value (λ d. read_lines most d t.rest) (λ d. h d t.rest)
+    read None h = refl
+    read (Some t) h = line_follows c.after_point c.settings t.value (λ d. read_lines most d t.rest) (λ d. h d t.rest)
 
 -- every point of a trace
 pub readable_points : (xs : List ℕ) → points_follow false (reading xs).lines ≡ true
@@ -88,7 +87,7 @@ own_points trace xs after rest e n = points_before false after rest (points_afte
 -- ---- words
 
 -- what holds of a line that can be read holds of every line of a trace
-module _ (P : Line → Type 0) (p : (xs : List ℕ) (t : Taken Line) → read_line xs ≡ some t → P t.value) where
+module _ (P : Line → Type 0) (p : (xs : List ℕ) (t : Taken Line) → read_line xs ≡ Some t → P t.value) where
   abbrev All : List Line → Type 0
   All [] = Unit {0}
   All (l ∷ ls) = P l × All ls
@@ -101,13 +100,13 @@ module _ (P : Line → Type 0) (p : (xs : List ℕ) (t : Taken Line) → read_li
     where
       followed : (t : Taken Line) (o : Option Context) → P t.value → ((d : Context) (ys : List ℕ) → All (read_lines most d ys).lines)
           → All (or_unreadable o (λ d. begins t.value (read_lines most d t.rest))).lines
-      followed t none e h = tt
-      followed t (some d) e h = (e, h d t.rest)
+      followed t None e h = tt
+      followed t (Some d) e h = (e, h d t.rest)
 
       read : (o : Option (Taken Line)) → read_line (x ∷ xs) ≡ o → ((d : Context) (ys : List ℕ) → All (read_lines most d ys).lines)
           → All (or_unreadable o (λ t. or_unreadable (follow c t.value) (λ d. begins t.value (read_lines most d t.rest)))).lines
-      read none e h = tt
-      read (some t) e h = followed t (follow c t.value) (p (x ∷ xs) t e) h
+      read None e h = tt
+      read (Some t) e h = followed t (follow c t.value) (p (x ∷ xs) t e) h
 
   all_at : (xs : List Line) (l : Line) (rest : List Line) → All (xs ++ l ∷ rest) → P l
   all_at [] l rest w = w.0

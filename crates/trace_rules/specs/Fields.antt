@@ -1,7 +1,6 @@
 -- A trace's lines, field by field: docs/TRACES.md, 'Lines'. Definitions only.
--- A line is its letter, its fields in order, each after a tab, and a line feed. Whatever fits no record reads to `none`.
-use Rattle.std.specs.Prelude.{ℕ, zero, suc, Bool, true, cond, ◌&&◌, List, [], ◌∷◌, ◌++◌, eqb, ltb, leb}
-use Rattle.std.proofs.Math.Option.{Option, none, some}
+-- A line is its letter, its fields in order, each after a tab, and a line feed. Whatever fits no record reads to `None`.
+use Rattle.std.specs.Prelude.{ℕ, zero, suc, Bool, true, cond, ◌&&◌, List, [], ◌∷◌, ◌++◌, eqb, ltb, leb, Option, None, Some}
 use Rattle.rules.specs.Limits.{colliders, bodies}
 use Rattle.text.specs.Text.{Taken, after, expect, tab, line_feed, word, decimal}
 
@@ -50,13 +49,13 @@ abbrev pub joined : Fields → Fields → Fields
 joined a b = record { words = a.words ++ b.words; fits = a.fits && b.fits }
 
 abbrev pub joined_taken : Fields → Taken Fields → Option (Taken Fields)
-joined_taken a t = some (record { value = joined a t.value; rest = t.rest })
+joined_taken a t = Some (record { value = joined a t.value; rest = t.rest })
 
 abbrev pub one_field : Kind → ℕ → Fields
 one_field k v = record { words = v ∷ []; fits = kind_fits k v }
 
 unfoldable pub read_kinds : List Kind → List ℕ → Option (Taken Fields)
-read_kinds [] xs = some (record { value = no_fields; rest = xs })
+read_kinds [] xs = Some (record { value = no_fields; rest = xs })
 read_kinds (k ∷ ks) xs = after (read_kind k xs) (λ v. after (read_kinds ks v.rest) (joined_taken (one_field k v.value)))
 
 -- a mark of presence before the words; behind a mark of 0 as many zeros
@@ -79,16 +78,16 @@ abbrev pub dash : ℕ
 dash = 45
 
 unfoldable pub dash_read : List ℕ → Option (List ℕ)
-dash_read xs = expect tab (expect dash some) xs
+dash_read xs = expect tab (expect dash Some) xs
 
 -- what is left where a line ends: all of it, the line feed too
 unfoldable pub end_read : List ℕ → Option (List ℕ)
-end_read xs = expect line_feed (λ rest. some xs) xs
+end_read xs = expect line_feed (λ rest. Some xs) xs
 
 -- where such a rest was read, the fields for what is not said
 abbrev pub default_or : Fields → Option (List ℕ) → Option (Taken Fields) → Option (Taken Fields)
-default_or default none other = other
-default_or default (some rest) other = some (record { value = default; rest = rest })
+default_or default None other = other
+default_or default (Some rest) other = Some (record { value = default; rest = rest })
 
 -- a dash, or fields behind a mark of presence
 abbrev pub dash_or : Fields → List Kind → List ℕ → Option (Taken Fields)
@@ -100,7 +99,7 @@ read_item (optional ks) xs = dash_or (absent ks) ks xs
 read_item setting xs = default_or unsaid (end_read xs) (dash_or unsaid (mark ∷ []) xs)
 
 unfoldable pub read_items : List Item → List ℕ → Option (Taken Fields)
-read_items [] xs = some (record { value = no_fields; rest = xs })
+read_items [] xs = Some (record { value = no_fields; rest = xs })
 read_items (i ∷ is) xs = after (read_item i xs) (λ t. after (read_items is t.rest) (joined_taken t.value))
 
 -- ---- the records, by their letter
@@ -167,14 +166,14 @@ point_shape = floats 10 (plain number ∷ plain number ∷ [])
 
 unfoldable pub shape : ℕ → Option (List Item)
 shape l =
-    cond (eqb l addition_letter) (some addition_shape)
-    (cond (eqb l settings_letter) (some settings_shape)
-    (cond (eqb l collider_letter) (some collider_shape)
-    (cond (eqb l body_letter) (some body_shape)
-    (cond (eqb l hook_letter) (some hook_shape)
-    (cond (eqb l manifold_letter) (some manifold_shape)
-    (cond (eqb l point_letter) (some point_shape)
-    (cond (eqb l go_letter) (some []) none)))))))
+    cond (eqb l addition_letter) (Some addition_shape)
+    (cond (eqb l settings_letter) (Some settings_shape)
+    (cond (eqb l collider_letter) (Some collider_shape)
+    (cond (eqb l body_letter) (Some body_shape)
+    (cond (eqb l hook_letter) (Some hook_shape)
+    (cond (eqb l manifold_letter) (Some manifold_shape)
+    (cond (eqb l point_letter) (Some point_shape)
+    (cond (eqb l go_letter) (Some []) None)))))))
 
 -- ---- a line: its letter, the words that it reads to, and whether its numbers are in range
 pub record Line : Type 0 where
@@ -183,8 +182,8 @@ pub record Line : Type 0 where
   pub fits : Bool
 
 unfoldable pub read_line : List ℕ → Option (Taken Line)
-read_line [] = none
+read_line [] = None
 read_line (l ∷ xs) =
     after (shape l) (λ is. after (read_items is xs) (λ t.
-    after (expect line_feed some t.rest) (λ rest.
-    some (record { value = record { letter = l; words = t.value.words; fits = t.value.fits }; rest = rest }))))
+    after (expect line_feed Some t.rest) (λ rest.
+    Some (record { value = record { letter = l; words = t.value.words; fits = t.value.fits }; rest = rest }))))

@@ -1,6 +1,5 @@
 -- The lines of a text by their places. Definitions only.
-use Rattle.std.specs.Prelude.{ℕ, zero, suc, ◌-◌, cond, List, [], ◌∷◌, ltb, length, drop}
-use Rattle.std.proofs.Math.Option.{Option, none, some}
+use Rattle.std.specs.Prelude.{ℕ, zero, suc, ◌-◌, cond, List, [], ◌∷◌, ltb, length, drop, Option, None, Some}
 use Rattle.text.specs.Text.{Taken}
 use Rattle.trace_rules.specs.Fields.{Line, read_line}
 
@@ -9,8 +8,8 @@ abbrev pub place_of : List ℕ → List ℕ → ℕ
 place_of xs rest = length xs - length rest
 
 abbrev pub lines_from : Option (Taken Line) → (Taken Line → List Line) → List Line
-lines_from none f = []
-lines_from (some t) f = f t
+lines_from None f = []
+lines_from (Some t) f = f t
 
 -- at most so many lines from place at on, while they begin below stop and can be read
 unfoldable pub lines_within : ℕ → List ℕ → ℕ → ℕ → List Line

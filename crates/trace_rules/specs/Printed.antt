@@ -1,6 +1,5 @@
 -- What a call prints: docs/TRACES.md, 'What is printed'. Definitions only.
-use Rattle.std.specs.Prelude.{ℕ, suc, List, [], ◌∷◌, ◌++◌, ℤ, pos, negsuc}
-use Rattle.std.proofs.Math.Option.{Option, none, some}
+use Rattle.std.specs.Prelude.{ℕ, suc, List, [], ◌∷◌, ◌++◌, ℤ, pos, negsuc, Option, None, Some}
 use Rattle.rows.specs.Rows.{each}
 use Rattle.rules.specs.Records.{Names}
 use Rattle.rules.specs.Status.{Event, started, ended, Change, start, stop, count}
@@ -28,8 +27,8 @@ abbrev pub printed_line : ℕ → List Cell → List ℕ
 printed_line letter cells = letter ∷ cells_text cells
 
 abbrev pub optional_cell : Option ℕ → Cell
-optional_cell none = absent
-optional_cell (some n) = number n
+optional_cell None = absent
+optional_cell (Some n) = number n
 
 abbrev pub signed_cell : ℤ → Cell
 signed_cell (pos n) = number n

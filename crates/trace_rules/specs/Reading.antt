@@ -1,6 +1,5 @@
 -- A trace's lines in turn, up to one that is unreadable: docs/TRACES.md, 'Unreadable lines'. Definitions only.
-use Rattle.std.specs.Prelude.{ℕ, zero, suc, Bool, true, false, cond, ◌||◌, List, [], ◌∷◌, eqb, length}
-use Rattle.std.proofs.Math.Option.{Option, none, some}
+use Rattle.std.specs.Prelude.{ℕ, zero, suc, Bool, true, false, cond, ◌||◌, List, [], ◌∷◌, eqb, length, Option, None, Some}
 use Rattle.trace_rules.specs.Fields.{Line, read_line, settings_letter, manifold_letter, point_letter, go_letter}
 
 abbrev pub is : ℕ → Line → Bool
@@ -17,9 +16,9 @@ beginning = record { after_point = false; settings = false }
 -- none where a line that fits a record is unreadable in its place
 unfoldable pub follow : Context → Line → Option Context
 follow c l =
-    cond (is point_letter l) (cond c.after_point (some c) none)
-    (cond (is go_letter l) (cond c.settings (some beginning) none)
-    (some (record { after_point = is manifold_letter l; settings = c.settings || is settings_letter l })))
+    cond (is point_letter l) (cond c.after_point (Some c) None)
+    (cond (is go_letter l) (cond c.settings (Some beginning) None)
+    (Some (record { after_point = is manifold_letter l; settings = c.settings || is settings_letter l })))
 
 -- the lines up to the end of the text, or up to an unreadable one
 pub record Reading : Type 0 where
@@ -30,8 +29,8 @@ abbrev pub ends : Bool → Reading
 ends unreadable = record { lines = []; unreadable = unreadable }
 
 abbrev pub or_unreadable : {A : Type 0} → Option A → (A → Reading) → Reading
-or_unreadable none f = ends true
-or_unreadable (some a) f = f a
+or_unreadable None f = ends true
+or_unreadable (Some a) f = f a
 
 abbrev pub begins : Line → Reading → Reading
 begins l r = record { lines = l ∷ r.lines; unreadable = r.unreadable }

@@ -1,6 +1,5 @@
 -- Additions and step records, from a trace's lines: docs/TRACES.md, 'What lines mean'. Definitions only.
-use Rattle.std.specs.Prelude.{ℕ, ◌*◌, Bool, true, cond, ◌&&◌, ◌||◌, List, [], ◌∷◌, ◌++◌, get_or, drop}
-use Rattle.std.proofs.Math.Option.{Option, none, some}
+use Rattle.std.specs.Prelude.{ℕ, ◌*◌, Bool, true, cond, ◌&&◌, ◌||◌, List, [], ◌∷◌, ◌++◌, get_or, drop, Option, None, Some}
 use Rattle.rows.specs.Rows.{put}
 use Rattle.layout.specs.Body.{body_size, bodies_length}
 use Rattle.layout.specs.Collider.{collider_size, colliders_length}
@@ -42,15 +41,15 @@ pub record Proposing : Type 0 where
   pub last : Option Manifold
 
 abbrev pub at_most_one : Option Manifold → List Manifold
-at_most_one none = []
-at_most_one (some m) = m ∷ []
+at_most_one None = []
+at_most_one (Some m) = m ∷ []
 
 abbrev pub proposed : Proposing → Proposal
 proposed s = record { hook = s.hook; manifolds = s.closed ++ at_most_one s.last }
 
 -- the hook says yes, unless a line says otherwise
 abbrev pub unproposed : Proposing
-unproposed = record { hook = 1; closed = []; last = none }
+unproposed = record { hook = 1; closed = []; last = None }
 
 -- the line names the pair, in either order
 abbrev pub of_pair : ℕ → ℕ → Line → Bool
@@ -60,13 +59,13 @@ abbrev pub new_manifold : Line → Manifold
 new_manifold l = record { normal = drop 2 l.words; points = [] }
 
 abbrev pub with_point : Option Manifold → Line → Option Manifold
-with_point none l = none
-with_point (some m) l = some (record { normal = m.normal; points = m.points ++ l.words ∷ [] })
+with_point None l = None
+with_point (Some m) l = Some (record { normal = m.normal; points = m.points ++ l.words ∷ [] })
 
 unfoldable pub proposing_after : ℕ → ℕ → Proposing → Line → Proposing
 proposing_after a b s l =
     cond (is hook_letter l) (cond (of_pair a b l) (record { hook = word_of l 2; closed = s.closed; last = s.last }) s)
-    (cond (is manifold_letter l) (record { hook = s.hook; closed = s.closed ++ at_most_one s.last; last = cond (of_pair a b l) (some (new_manifold l)) none })
+    (cond (is manifold_letter l) (record { hook = s.hook; closed = s.closed ++ at_most_one s.last; last = cond (of_pair a b l) (Some (new_manifold l)) None })
     (cond (is point_letter l) (record { hook = s.hook; closed = s.closed; last = with_point s.last l }) s))
 
 -- ---- what a step is given by the lines since the last go

@@ -1,5 +1,5 @@
 -- What a trace prints is what the same calls give directly, and these calls are a run, so that the claim about runs holds of them. Assumes nothing.
-use Rattle.std.specs.Prelude.{ℕ, ◌≡◌, refl, Bool, cond, List, [], ◌∷◌, ◌++◌, eqb}
+use Rattle.std.specs.Prelude.{ℕ, ◌≡◌, refl, Bool, cond, List, [], ◌∷◌, ◌++◌, eqb, Err, Ok, Result}
 use Rattle.std.proofs.Common.{sym, subst, ◌∙◌}
 use Rattle.std.proofs.Math.Path.{ap}
 use Rattle.std.proofs.Math.Bool.{true, false}
@@ -10,11 +10,8 @@ use Rattle.contact_range.specs.Recorded.{capacity_of}
 use Rattle.contact_graph.specs.Calls.{request_of, add_refusal, added_words}
 use Rattle.contact_graph.specs.DeterminedLaws.{add_answered}
 use Rattle.contact_graph.specs.Promises.{Added}
-use Rattle.contact_graph.specs.declared.add.AddAnswer.{AddAnswer}
-use Rattle.contact_graph.specs.declared.add.AddAnswer.TheVariants as add
 use Rattle.step.specs.DeterminedLaws.{step_answered}
 use Rattle.step.specs.Step.{Given, Rows, Stepped, step_refusal, pass_of, rows_of}
-use Rattle.step.specs.declared.answer.StepAnswer.{StepAnswer}
 use Rattle.contact_runs.specs.Runs as runs
 use Rattle.contact_runs.specs.Runs.{Told, Outcomes, end, ◌then◌, Promised, Run}
 use Rattle.trace_rules.specs.Play.{Played, given_by, blank_rows, go_refusal, play_entry, play_entries, played}
@@ -24,15 +21,18 @@ use Rattle.trace_rules.specs.Records.{StepRecord, Entry, addition, stepping, ent
 use Rattle.trace_player.specs.Played.{Effect, answer_text, step_effect}
 use Rattle.trace_player.specs.PlayLaws.{addition_accepted, addition_refused, step_told}
 use Rattle.trace_runs.specs.Calls.{addition_text, AsCalls, as_end, as_addition, as_step, as_unfit, last_graph}
+use Rattle.step.specs.declared.answer.StepReport.{StepReport}
+use Rattle.contact_types.specs.declared.refusal.Refusal.{Refusal}
+use Rattle.contact_types.specs.declared.contact_id.ContactId.{ContactId}
 
 -- ---- one entry: what its call's answer prints, and the graph after it
 abbrev PlaysAs : Entry → List ℕ → List ℕ → List ℕ → Type 0
 PlaysAs e g text h = (text ≡ (play_entry e g).text) × (h ≡ (play_entry e g).graph)
 
-addition_plays : (words g h : List ℕ) (r : AddAnswer) → Added g (request_of words) h r → PlaysAs (addition words) g (addition_text r) h
+addition_plays : (words g h : List ℕ) (r : Result ContactId Refusal) → Added g (request_of words) h r → PlaysAs (addition words) g (addition_text r) h
 unfolding play_entry
-addition_plays words g h (add.Added id) k = let t = addition_accepted g (request_of words) h (add.Added id) k tt in (sym t.1, t.0)
-addition_plays words g h (add.Refused r) k = let t = addition_refused g (request_of words) h (add.Refused r) (number_of r) k refl in (sym t.1, t.0)
+addition_plays words g h (Ok id) k = let t = addition_accepted g (request_of words) h (Ok id) k tt in (sym t.1, t.0)
+addition_plays words g h (Err r) k = let t = addition_refused g (request_of words) h (Err r) (number_of r) k refl in (sym t.1, t.0)
 
 module _ (s : StepRecord) (g : List ℕ) where
   abbrev x : Given
@@ -64,7 +64,7 @@ module _ (s : StepRecord) (g : List ℕ) where
       by true = (refl, refl)
       by false = (refl, refl)
 
-  step_plays : (h : List ℕ) (l' : Rows) (r : StepAnswer) → s.fits ≡ true → Stepped x g l h l' r → PlaysAs (stepping s) g (answer_text r l'.events l'.changes) h
+  step_plays : (h : List ℕ) (l' : Rows) (r : Result StepReport Refusal) → s.fits ≡ true → Stepped x g l h l' r → PlaysAs (stepping s) g (answer_text r l'.events l'.changes) h
   unfolding play_entry
   step_plays h l' r e k =
       let t = step_told x g l h l' r k in
@@ -108,7 +108,7 @@ calls_play (as_unfit {g} {text} {s} {es} {cs} {os} e m) k = plays_on (stepping s
 abbrev CallsOf : List ℕ → List Entry → Type 0
 CallsOf g es = (cs : List runs.Entry) × (os : Outcomes cs) × (text : List ℕ) × Run Promised g cs os × AsCalls g es cs os text
 
-addition_called : (g h words : List ℕ) (es : List Entry) (r : AddAnswer) → Added g (request_of words) h r → CallsOf h es → CallsOf g (addition words ∷ es)
+addition_called : (g h words : List ℕ) (es : List Entry) (r : Result ContactId Refusal) → Added g (request_of words) h r → CallsOf h es → CallsOf g (addition words ∷ es)
 unfolding Run
 addition_called g h words es r k (cs, os, text, run, m) = (
   runs.addition (request_of words) ∷ cs,
@@ -118,7 +118,7 @@ addition_called g h words es r k (cs, os, text, run, m) = (
   as_addition m,
 )
 
-step_called : (g h : List ℕ) (s : StepRecord) (es : List Entry) (r : StepAnswer) (l : Rows) → s.fits ≡ true → Stepped (given_by s g) g (blank_rows (capacity_of g)) h l r → CallsOf h es
+step_called : (g h : List ℕ) (s : StepRecord) (es : List Entry) (r : Result StepReport Refusal) (l : Rows) → s.fits ≡ true → Stepped (given_by s g) g (blank_rows (capacity_of g)) h l r → CallsOf h es
     → CallsOf g (stepping s ∷ es)
 unfolding Run
 step_called g h s es r l e k (cs, os, text, run, m) = (

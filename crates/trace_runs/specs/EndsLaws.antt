@@ -1,8 +1,7 @@
 -- Every trace is played to its end: each line moves the player on, and what is lent keeps its lengths. Assumes nothing.
-use Rattle.std.specs.Prelude.{ℕ, zero, suc, ◌+◌, ◌≤◌, ◌<◌, ◌≡◌, ◌⊎◌, Bool, true, false, cond, List, [], ◌++◌, leb, length, take, drop}
+use Rattle.std.specs.Prelude.{ℕ, zero, suc, ◌+◌, ◌≤◌, ◌<◌, ◌≡◌, ◌⊎◌, Bool, true, false, cond, List, [], ◌++◌, leb, length, take, drop, Option, None, Some}
 use Rattle.std.proofs.Common.{arith, sym, ap, subst, ◌∙◌, inl, inr, leb-true, leb-false, length-append, length-drop}
 use Rattle.std.proofs.Math.Path.{refl}
-use Rattle.std.proofs.Math.Option.{Option, none, some}
 use Rattle.text.specs.Text.{Taken}
 use Rattle.trace_rules.specs.Fields.{Line, read_line, go_letter}
 use Rattle.trace_rules.specs.Places.{place_of}
@@ -27,7 +26,7 @@ after_place p l next c = by (is go_letter l)
     by true = refl
     by false = refl
 
-taken_place : (xs : List ℕ) (at : ℕ) (t : Taken Line) → read_line (drop at xs) ≡ some t → at < place_of xs t.rest
+taken_place : (xs : List ℕ) (at : ℕ) (t : Taken Line) → read_line (drop at xs) ≡ Some t → at < place_of xs t.rest
 taken_place xs at t e =
     let f = line_ends (drop at xs) t e in
     let a = length-drop at xs in
@@ -40,10 +39,10 @@ next_player xs unreadable_line = player_at (length xs)
 next_player xs (readable_line line next) = next
 
 module _ (xs : List ℕ) (p : Player) (inside : p.place < length xs) where
-  followed_moves : (t : Taken Line) → read_line (drop p.place xs) ≡ some t → (o : Option Context)
+  followed_moves : (t : Taken Line) → read_line (drop p.place xs) ≡ Some t → (o : Option Context)
       → p.place < (next_player xs (or_unreadable_line o (λ c. readable_line t.value (player_after p t.value (place_of xs t.rest) c)))).place
-  followed_moves t e none = inside
-  followed_moves t e (some c) = subst (λ (n : ℕ). p.place < n) (sym (after_place p t.value (place_of xs t.rest) c)) (taken_place xs p.place t e)
+  followed_moves t e None = inside
+  followed_moves t e (Some c) = subst (λ (n : ℕ). p.place < n) (sym (after_place p t.value (place_of xs t.rest) c)) (taken_place xs p.place t e)
 
   asked_moves : p.place < (next_player xs (asked xs p)).place
   unfolding asked
@@ -53,8 +52,8 @@ module _ (xs : List ℕ) (p : Player) (inside : p.place < length xs) where
           → p.place
           < (next_player xs
           (or_unreadable_line o (λ t. or_unreadable_line (follow (context_of p) t.value) (λ c. readable_line t.value (player_after p t.value (place_of xs t.rest) c))))).place
-      by none e = inside
-      by (some t) e = followed_moves t e (follow (context_of p) t.value)
+      by None e = inside
+      by (Some t) e = followed_moves t e (follow (context_of p) t.value)
 
 -- ---- one call
 abbrev asked_text : List ℕ → Player → Lent → Asked → List ℕ

@@ -1,9 +1,8 @@
 -- A trace that is played call by call prints what the definitions say, leaves their graph, and has ended after as many calls as it has lines. Assumes nothing.
-use Rattle.std.specs.Prelude.{ℕ, suc, ◌≤◌, ◌<◌, ◌≡◌, Bool, cond, not, List, [], ◌++◌, take, drop}
+use Rattle.std.specs.Prelude.{ℕ, suc, ◌≤◌, ◌<◌, ◌≡◌, Bool, cond, not, List, [], ◌++◌, take, drop, Ok, Some, None, Option}
 use Rattle.std.proofs.Common.{zero-le, arith, sym, ap, subst, ◌∙◌, length-drop, drop_of_length-le}
 use Rattle.std.proofs.Math.Path.{refl}
 use Rattle.std.proofs.Math.Bool.{true, false}
-use Rattle.std.proofs.Math.Option.{Option, none, some}
 use Rattle.std.proofs.Math.Dec.{leb}
 use borrow.Author.Tests.{leb-true, leb-false}
 use Rattle.std.proofs.Math.ListN.{length}
@@ -23,7 +22,6 @@ use Rattle.trace_player.specs.Played.{Lent, lent_fits, LineAnswer, refused, ende
 use Rattle.trace_player.specs.AskedLaws.{asked_out, asked_in, asked_unread}
 use Rattle.trace_player.specs.CallLaws.{after_end, after_asked}
 use Rattle.trace_player.specs.declared.player.Player.{Player}
-use Rattle.trace_player.specs.declared.play.PlayAnswer.TheVariants as answer
 use Rattle.trace_runs.specs.Plays.{Plays, play_ends, play_next, TracePlayed}
 use Rattle.trace_runs.specs.GoLaws.{SameGo, go_same}
 use Rattle.trace_runs.specs.RoomLaws.{taken_back, LentRoom, lent_room, refused_fits, line_fits}
@@ -100,7 +98,7 @@ unfolding step_record
 step_fits ls = refl
 
 -- ---- one call, where the calls after it play what is left
-module _ (xs : List ℕ) (p q : Player) (n : ℕ) (l l' : Lent) (called : LinePlayed xs p l l' (answer.Played (record { player = q; written = n }))) (since : List Line) (s : Stands xs p since) (k : ℕ)
+module _ (xs : List ℕ) (p q : Player) (n : ℕ) (l l' : Lent) (called : LinePlayed xs p l l' (Ok (Some (record { player = q; written = n })))) (since : List Line) (s : Stands xs p since) (k : ℕ)
     (bytes h : List ℕ) (others : (ls : List Line) → Stands xs q ls → ReadingPlayed (reading_of xs q) ls l'.graph k bytes h) where
   fit : (lent_fits l ≡ true) × (p.place < length xs)
   fit = call_played xs p l (subst IsPlayed called.answer tt)
@@ -128,7 +126,7 @@ module _ (xs : List ℕ) (p q : Player) (n : ℕ) (l l' : Lent) (called : LinePl
       (subst (λ (ws : List ℕ). ReadingPlayed (ends true) since l.graph (suc k) (ws ++ bytes) h) (sym d.text) (unreadable_played since l.graph o'))
 
   -- a readable one is followed by the others
-  next_line : (t : Taken Line) (c : Context) → read_line (drop p.place xs) ≡ some t → follow (context_of p) t.value ≡ some c
+  next_line : (t : Taken Line) (c : Context) → read_line (drop p.place xs) ≡ Some t → follow (context_of p) t.value ≡ Some c
       → ReadingPlayed (reading_of xs p) since l.graph (suc k) (take n l'.out ++ bytes) h
   next_line t c e f =
       let line = t.value in
@@ -153,17 +151,17 @@ module _ (xs : List ℕ) (p q : Player) (n : ℕ) (l l' : Lent) (called : LinePl
   one_call : ReadingPlayed (reading_of xs p) since l.graph (suc k) (take n l'.out ++ bytes) h
   one_call = by_line (read_line (drop p.place xs)) refl
     where
-      by_context : (t : Taken Line) → read_line (drop p.place xs) ≡ some t → (o : Option Context) → follow (context_of p) t.value ≡ o
+      by_context : (t : Taken Line) → read_line (drop p.place xs) ≡ Some t → (o : Option Context) → follow (context_of p) t.value ≡ o
           → ReadingPlayed (reading_of xs p) since l.graph (suc k) (take n l'.out ++ bytes) h
-      by_context t e none f = last_line (asked_out xs p t e f) (reading_misplaced (context_of p) (drop p.place xs) left_over t e f)
-      by_context t e (some c) f = next_line t c e f
+      by_context t e None f = last_line (asked_out xs p t e f) (reading_misplaced (context_of p) (drop p.place xs) left_over t e f)
+      by_context t e (Some c) f = next_line t c e f
 
       by_line : (o : Option (Taken Line)) → read_line (drop p.place xs) ≡ o → ReadingPlayed (reading_of xs p) since l.graph (suc k) (take n l'.out ++ bytes) h
-      by_line none e = last_line (asked_unread xs p e) (reading_unreadable (context_of p) (drop p.place xs) left_over e)
-      by_line (some t) e = by_context t e (follow (context_of p) t.value) refl
+      by_line None e = last_line (asked_unread xs p e) (reading_unreadable (context_of p) (drop p.place xs) left_over e)
+      by_line (Some t) e = by_context t e (follow (context_of p) t.value) refl
 
 -- the call that answers that the trace has ended
-last_call : (xs : List ℕ) (p : Player) (l l' : Lent) (since : List Line) → LinePlayed xs p l l' answer.Ended → ReadingPlayed (reading_of xs p) since l.graph 0 [] l'.graph
+last_call : (xs : List ℕ) (p : Player) (l l' : Lent) (since : List Line) → LinePlayed xs p l l' (Ok None) → ReadingPlayed (reading_of xs p) since l.graph 0 [] l'.graph
 last_call xs p l l' since called =
     let f = call_ended xs p l (subst IsEnded called.answer tt) in
     let none_left : reading_of xs p ≡ ends false = ap (reading_from (context_of p)) (drop_of_length-le xs f.1) ∙ reading_end (context_of p) in

@@ -1,17 +1,16 @@
 -- A trace played call by call, and what that amounts to. Definitions only.
-use Rattle.std.specs.Prelude.{ℕ, suc, ◌+◌, ◌≡◌, cond, List, [], ◌++◌, length, take}
+use Rattle.std.specs.Prelude.{ℕ, suc, ◌+◌, ◌≡◌, cond, List, [], ◌++◌, length, take, Ok, Some, None}
 use Rattle.trace_rules.specs.Reading.{Reading, reading}
 use Rattle.trace_rules.specs.Records.{entries}
 use Rattle.trace_rules.specs.Play.{play_entries, played}
 use Rattle.trace_player.specs.Played.{Lent, LinePlayed}
 use Rattle.trace_player.specs.declared.player.Player.{Player}
-use Rattle.trace_player.specs.declared.play.PlayAnswer.TheVariants as answer
 
 -- Calls of `play_line`, each with the player that the last one answered, up to one that answers that the trace has ended: how many lines are played, the bytes that
 -- the calls write, one after another, and what was lent at the end.
 pub data Plays (xs : List ℕ) : Player → Lent → ℕ → List ℕ → Lent → Type 0 where
-  play_ends : {p : Player} {l l' : Lent} → LinePlayed xs p l l' answer.Ended → Plays xs p l 0 [] l'
-  play_next : {p q : Player} {n k : ℕ} {l l' l'' : Lent} {text : List ℕ} → LinePlayed xs p l l' (answer.Played (record { player = q; written = n })) → Plays xs q l' k text l''
+  play_ends : {p : Player} {l l' : Lent} → LinePlayed xs p l l' (Ok None) → Plays xs p l 0 [] l'
+  play_next : {p q : Player} {n k : ℕ} {l l' l'' : Lent} {text : List ℕ} → LinePlayed xs p l l' (Ok (Some (record { player = q; written = n }))) → Plays xs q l' k text l''
       → Plays xs p l (suc k) (take n l'.out ++ text) l''
 
 -- how many lines a trace has: those that are read, and an unreadable one

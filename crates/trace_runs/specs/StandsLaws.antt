@@ -1,7 +1,6 @@
 -- Where the player stands in a trace: what it has read since the last go, and where the next line leads it. Assumes nothing.
-use Rattle.std.specs.Prelude.{ℕ, ◌+◌, ◌-◌, ◌≤◌, ◌<◌, ◌≡◌, refl, Bool, true, false, cond, ◌||◌, List, [], ◌∷◌, ◌++◌, eqb, length, drop}
+use Rattle.std.specs.Prelude.{ℕ, ◌+◌, ◌-◌, ◌≤◌, ◌<◌, ◌≡◌, refl, Bool, true, false, cond, ◌||◌, List, [], ◌∷◌, ◌++◌, eqb, length, drop, Option, None, Some}
 use Rattle.std.proofs.Common.{arith, sym, ap, subst, ◌∙◌, eqb-true, length-append, length-drop, drop-drop}
-use Rattle.std.proofs.Math.Option.{Option, none, some}
 use Rattle.std.proofs.Math.Seq.{drop-append_seam}
 use Rattle.text.specs.Text.{Taken}
 use Rattle.trace_rules.specs.Fields.{Line, read_line, settings_letter, manifold_letter, point_letter, go_letter}
@@ -31,27 +30,27 @@ fold_next f s (m ∷ ls) l = fold_next f (f s m) ls l
 
 -- a go leads to the beginning
 abbrev context_in : Option Context → Context
-context_in none = beginning
-context_in (some c) = c
+context_in None = beginning
+context_in (Some c) = c
 
-go_begins : (c d : Context) (l : Line) → is go_letter l ≡ true → follow c l ≡ some d → beginning ≡ d
+go_begins : (c d : Context) (l : Line) → is go_letter l ≡ true → follow c l ≡ Some d → beginning ≡ d
 unfolding follow
 go_begins c d l e f =
     let a : l.letter ≡ go_letter = eqb-true l.letter go_letter e in
     by c.settings
     (subst
     (λ (k : ℕ).
-    cond (eqb k point_letter) (cond c.after_point (some c) none)
-    (cond (eqb k go_letter) (cond c.settings (some beginning) none) (some (record { after_point = eqb k manifold_letter; settings = c.settings || eqb k settings_letter })))
-    ≡ some d)
+    cond (eqb k point_letter) (cond c.after_point (Some c) None)
+    (cond (eqb k go_letter) (cond c.settings (Some beginning) None) (Some (record { after_point = eqb k manifold_letter; settings = c.settings || eqb k settings_letter })))
+    ≡ Some d)
     a f)
   where
-    by : (t : Bool) → cond t (some beginning) none ≡ some d → beginning ≡ d
+    by : (t : Bool) → cond t (Some beginning) None ≡ Some d → beginning ≡ d
     by true g = ap context_in g
     by false g = ap context_in g
 
 -- ---- after a line that is read
-module _ (xs : List ℕ) (at : ℕ) (inside : at ≤ length xs) (t : Taken Line) (read : read_line (drop at xs) ≡ some t) where
+module _ (xs : List ℕ) (at : ℕ) (inside : at ≤ length xs) (t : Taken Line) (read : read_line (drop at xs) ≡ Some t) where
   rest_place : (place : ℕ) → place ≡ place_of xs t.rest → (t.rest ≡ drop place xs) × (at < place) × (place ≤ length xs)
   rest_place place e =
       let f = line_ends (drop at xs) t read in
@@ -75,8 +74,8 @@ pub record StandsNext (xs : List ℕ) (next : Player) (since : List Line) (c : C
   pub context : context_of next ≡ c
   pub left : drop next.place xs ≡ rest
 
-pub stands_next : {xs : List ℕ} {p : Player} {since : List Line} (t : Taken Line) (c : Context) → Stands xs p since → read_line (drop p.place xs) ≡ some t
-    → follow (context_of p) t.value ≡ some c → StandsNext xs (player_after p t.value (place_of xs t.rest) c) (since_after since t.value) c t.rest
+pub stands_next : {xs : List ℕ} {p : Player} {since : List Line} (t : Taken Line) (c : Context) → Stands xs p since → read_line (drop p.place xs) ≡ Some t
+    → follow (context_of p) t.value ≡ Some c → StandsNext xs (player_after p t.value (place_of xs t.rest) c) (since_after since t.value) c t.rest
 unfolding player_after
 stands_next {xs} {p} {since} t c s e f = by (is go_letter t.value) (λ g. go_begins (context_of p) c t.value g f)
   where
@@ -91,7 +90,7 @@ stands_next {xs} {p} {since} t c s e f = by (is go_letter t.value) (λ g. go_beg
         record {
           stands = record {
             reached = reached_next (place_of xs t.rest) t.value s.reached
-                (e ∙ ap (λ (rest : List ℕ). some (record { value = t.value; rest = rest })) (rest_at xs p.place s.inside t e)) (rest_after xs p.place s.inside t e)
+                (e ∙ ap (λ (rest : List ℕ). Some (record { value = t.value; rest = rest })) (rest_at xs p.place s.inside t e)) (rest_after xs p.place s.inside t e)
                 (rest_inside xs p.place s.inside t e);
             fits = ap (λ (b : Bool). fits_after b t.value) s.fits ∙ sym (fold_next fits_after true since t.value);
             inside = rest_inside xs p.place s.inside t e;

@@ -1,8 +1,9 @@
 -- The active contacts in the list's order: where they stand, and the shares that list them. Assumes nothing.
 use Rattle.std.specs.Prelude.{ℕ, ◌+◌, ◌≤◌, ◌<◌, ◌≡◌, List, length, get_or, set, take}
 use Rattle.std.proofs.Common.{arith, sym, ap, ◌∙◌}
-use Rattle.rows.specs.Rows.{put}
-use Rattle.rows.specs.Laws.{store_step}
+use Rattle.std.proofs.Math.Seq.{ext_get_or}
+use Rattle.rows.specs.Rows.{put, part}
+use Rattle.rows.specs.Laws.{length_part, get_d_part, store_step}
 use Rattle.rules.specs.Limits.{most_contacts}
 use Rattle.layout.specs.Graph.{graph_list}
 use Rattle.layout.specs.Shares.{shares_entries, shares_length}
@@ -31,7 +32,15 @@ pub record ListPlaces (g : List ℕ) : Type 0 where
 pub list_places : {g : List ℕ} → Checked g → ListPlaces g
 list_places c = let right = c.right in record { few = (counts c.range).listed; most = right.most; room = omega (arith, right.size) }
 
--- a turn of the loop that lists them
+-- they are the words of the list
+pub active_part : {g : List ℕ} → Checked g → part g graph_list (listed_count g) ≡ active_of g
+active_part {g} c =
+    let z = list_places c in
+    let n = length_part g graph_list (listed_count g) (omega (arith, z.few, z.room)) in
+    ext_get_or 0 _ _ (n ∙ sym (active_length g))
+    (λ k h. let l : k < listed_count g = omega (arith, n) in get_d_part g graph_list (listed_count g) k 0 l ∙ sym (active_at g k l))
+
+-- one more of them, put behind those before it
 pub list_step : (g xs : List ℕ) (p : ℕ) {ys : List ℕ} → ys ≡ put xs shares_entries (take p (active_of g)) → p < listed_count g
     → set ys (shares_entries + p) (listed_at g p) ≡ put xs shares_entries (take (p + 1) (active_of g))
 list_step g xs p {ys} e h = ap (set ys (shares_entries + p)) (sym (active_at g p h)) ∙ store_step xs shares_entries (active_of g) p 0 e (omega (arith, active_length g))

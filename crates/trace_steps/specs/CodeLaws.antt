@@ -1,5 +1,5 @@
 -- What the code's stores leave, function by function: the premises are what its tests and calls told. Assumes nothing.
-use Rattle.std.specs.Prelude.{ℕ, ◌+◌, ◌-◌, ◌*◌, ◌≤◌, ◌<◌, ◌≡◌, Bool, true, false, eqb, ltb, length, get_or, set}
+use Rattle.std.specs.Prelude.{ℕ, ◌+◌, ◌-◌, ◌*◌, ◌≤◌, ◌<◌, ◌≡◌, Bool, true, false, ltb, length, get_or, set}
 use Rattle.std.proofs.Common.{arith, sym, ◌∙◌, le-leb, lt-ltb, le-ltb, eq-eqb, ne_eqb}
 use Rattle.std.proofs.Math.Path.{ap}
 use Rattle.std.proofs.Math.Bool.{cond}
@@ -9,15 +9,10 @@ use Rattle.rows.specs.Rows.{part, put}
 use Rattle.rows.specs.Laws.{put_one}
 use Rattle.rows.specs.SlotLaws.{slot_fits}
 use Rattle.rules.specs.Limits.{pair_manifolds, proposed_points}
-use Rattle.rules.specs.Limits as limits
-use Rattle.layout.specs.Body.{body_size}
-use Rattle.layout.specs.Collider.{collider_size}
 use Rattle.layout.specs.Proposal.{proposal_hook, proposal_count, proposed_manifold_points, proposed_point_size}
-use Rattle.layout.specs.Settings.{settings_length}
-use Rattle.trace_rules.specs.Fields.{settings_letter, collider_letter, body_letter, hook_letter, manifold_letter, point_letter}
 use Rattle.words.specs.Words.{word_at}
 use Rattle.trace_steps.specs.declared.proposal.Counts.{Counts}
-use Rattle.trace_steps.specs.Lines.{settings_taken, record_stored, RowsTaken, raised, of_pair_at, manifold_place, manifold_stored, point_stored, Progress, progress, hook_taken, manifold_taken, point_taken, line_taken}
+use Rattle.trace_steps.specs.Lines.{record_stored, raised, of_pair_at, manifold_place, manifold_stored, point_stored, Progress, progress, hook_taken, manifold_taken, point_taken}
 use Rattle.trace_steps.specs.RowLaws.{put_two}
 
 -- ---- a record
@@ -35,37 +30,6 @@ module _ (count size : ℕ) (ws row : List ℕ) {n : ℕ} (e : n ≡ word_at ws 
 -- it lies in the row
 pub record_room : (row : List ℕ) (count size n : ℕ) → length row ≡ count * size → n < count → n * size + size ≤ length row
 record_room row count size n e h = let r : 0 + n * size + size ≤ length row = slot_fits 0 size count n (length row) h (omega arith) in omega arith
-
--- ---- settings, a collider, a body
-module _ (letter : ℕ) (ws s c b : List ℕ) where
-  abbrev colliders_by : Bool → List ℕ
-  colliders_by t = cond t (record_stored limits.colliders collider_size ws c) c
-
-  abbrev bodies_by : Bool → List ℕ
-  bodies_by t = cond t (record_stored limits.bodies body_size ws b) b
-
-  settings_kept : (letter ≡ settings_letter → ⊥) → s ≡ settings_taken letter ws s
-  unfolding settings_taken
-  settings_kept n = ap (λ (t : Bool). cond t (put s 0 (part ws 0 settings_length)) s) (sym (ne_eqb letter settings_letter n))
-
-  pub rows_settings : letter ≡ settings_letter → {s' : List ℕ} → s' ≡ put s 0 (part ws 0 settings_length) → RowsTaken letter ws s c b s' c b
-  unfolding settings_taken
-  rows_settings e z =
-      record {
-        settings_are = z ∙ ap (λ (t : Bool). cond t (put s 0 (part ws 0 settings_length)) s) (sym (eq-eqb letter settings_letter e));
-        colliders_are = ap colliders_by (sym (ne_eqb letter collider_letter (λ d. omega arith)));
-        bodies_are = ap bodies_by (sym (ne_eqb letter body_letter (λ d. omega arith)));
-      }
-
-  pub rows_collider : (letter ≡ settings_letter → ⊥) → letter ≡ collider_letter → {c' : List ℕ} → c' ≡ record_stored limits.colliders collider_size ws c → RowsTaken letter ws s c b s c' b
-  rows_collider n e z =
-      record { settings_are = settings_kept n; colliders_are = z ∙ ap colliders_by (sym (eq-eqb letter collider_letter e)); bodies_are = ap bodies_by (sym (ne_eqb letter body_letter (λ d. omega arith))) }
-
-  pub rows_body : (letter ≡ settings_letter → ⊥) → (letter ≡ collider_letter → ⊥) → letter ≡ body_letter → {b' : List ℕ} → b' ≡ record_stored limits.bodies body_size ws b → RowsTaken letter ws s c b s c b'
-  rows_body n m e z = record { settings_are = settings_kept n; colliders_are = ap colliders_by (sym (ne_eqb letter collider_letter m)); bodies_are = z ∙ ap bodies_by (sym (eq-eqb letter body_letter e)) }
-
-  pub rows_other : (letter ≡ settings_letter → ⊥) → (letter ≡ collider_letter → ⊥) → (letter ≡ body_letter → ⊥) → RowsTaken letter ws s c b s c b
-  rows_other n m k = record { settings_are = settings_kept n; colliders_are = ap colliders_by (sym (ne_eqb letter collider_letter m)); bodies_are = ap bodies_by (sym (ne_eqb letter body_letter k)) }
 
 -- ---- a hook line
 module _ (a b : ℕ) (ws row : List ℕ) {own : Bool} (e : own ≡ of_pair_at a b ws) where
@@ -153,29 +117,3 @@ module _ (ws row : List ℕ) (c : Counts) where
   unfolding point_taken
   point_joins h z m =
       (λ i. progress (z i) (record { manifolds = c.manifolds; last = c.last; points = m i })) ∙ ap (λ (x : Bool). cond x (progress row c) taken_point_lem) (sym (ne_eqb c.last 0 h))
-
--- ---- a line
-module _ (a b letter : ℕ) (ws row : List ℕ) (c : Counts) where
-  abbrev by_hook : Progress
-  by_hook = progress (hook_taken a b ws row) c
-
-  abbrev by_tests : Bool → Bool → Bool → Progress
-  by_tests x y z = cond x by_hook (cond y (manifold_taken a b ws (progress row c)) (cond z (point_taken ws (progress row c)) (progress row c)))
-
-  pub line_hook : letter ≡ hook_letter → {zs : List ℕ} → zs ≡ hook_taken a b ws row → progress zs c ≡ line_taken a b letter ws (progress row c)
-  unfolding line_taken
-  line_hook h z = ap (λ (xs : List ℕ). progress xs c) z ∙ ap (λ (x : Bool). by_tests x (eqb letter manifold_letter) (eqb letter point_letter)) (sym (eq-eqb letter hook_letter h))
-
-  module _ (no-hook : letter ≡ hook_letter → ⊥) where
-    pub line_manifold : letter ≡ manifold_letter → {p : Progress} → p ≡ manifold_taken a b ws (progress row c) → p ≡ line_taken a b letter ws (progress row c)
-    unfolding line_taken
-    line_manifold h z = z ∙ (λ i. by_tests (sym (ne_eqb letter hook_letter no-hook) i) (sym (eq-eqb letter manifold_letter h) i) (eqb letter point_letter))
-
-    module _ (no-manifold : letter ≡ manifold_letter → ⊥) where
-      pub line_point : letter ≡ point_letter → {p : Progress} → p ≡ point_taken ws (progress row c) → p ≡ line_taken a b letter ws (progress row c)
-      unfolding line_taken
-      line_point h z = z ∙ (λ i. by_tests (sym (ne_eqb letter hook_letter no-hook) i) (sym (ne_eqb letter manifold_letter no-manifold) i) (sym (eq-eqb letter point_letter h) i))
-
-      pub line_none : (letter ≡ point_letter → ⊥) → progress row c ≡ line_taken a b letter ws (progress row c)
-      unfolding line_taken
-      line_none h = (λ i. by_tests (sym (ne_eqb letter hook_letter no-hook) i) (sym (ne_eqb letter manifold_letter no-manifold) i) (sym (ne_eqb letter point_letter h) i))

@@ -1,10 +1,9 @@
 -- The row and the counts follow a pair's proposal, line by line. Assumes nothing.
-use Rattle.std.specs.Prelude.{ℕ, ◌+◌, ◌-◌, ◌*◌, ◌≤◌, ◌<◌, ◌≡◌, Bool, eqb, ltb, drop}
+use Rattle.std.specs.Prelude.{ℕ, ◌+◌, ◌-◌, ◌*◌, ◌≤◌, ◌<◌, ◌≡◌, Bool, eqb, ltb, drop, Option, None, Some}
 use Rattle.std.proofs.Common.{arith, ◌∙◌, length-append}
 use Rattle.std.proofs.Math.Path.{refl, sym, ap, subst}
 use Rattle.std.proofs.Math.Bool.{true, false, cond}
 use mathlib.Core.List.{List, [], ◌∷◌, ◌++◌, append-nil}
-use Rattle.std.proofs.Math.Option.{Option, none, some}
 use borrow.Author.Tests.{eqb-true, ltb-true, ltb-false, leb-true, leb-false, le-leb, lt-leb, lt-ltb, le-ltb, ne_eqb}
 use Rattle.std.proofs.Math.Dec.{leb}
 use Rattle.std.proofs.Math.ListN.{length, length-drop}
@@ -31,8 +30,8 @@ pub record Joined (m : Manifold) (c : Counts) : Type 0 where
   pub sizes : length (each (λ p. p) m.points) ≡ length m.points * proposed_point_size
 
 abbrev pub LastFollows : Option Manifold → Counts → Type 0
-LastFollows none c = c.last ≡ 0
-LastFollows (some m) c = Joined m c
+LastFollows None c = c.last ≡ 0
+LastFollows (Some m) c = Joined m c
 
 pub record Follows (s : Proposing) (p : Progress) : Type 0 where
   pub row : p.row ≡ proposal_words (proposed s)
@@ -50,7 +49,7 @@ module _ {s : Proposing} {p : Progress} (f : Follows s p) where
       }
 
   -- ---- a manifold of another pair: points join none
-  follows_other : Follows (record { hook = s.hook; closed = s.closed ++ at_most_one s.last; last = none }) (record { row = p.row; counts = record { manifolds = p.counts.manifolds; last = 0; points = 0 } })
+  follows_other : Follows (record { hook = s.hook; closed = s.closed ++ at_most_one s.last; last = None }) (record { row = p.row; counts = record { manifolds = p.counts.manifolds; last = 0; points = 0 } })
   follows_other =
       let e = append-nil (s.closed ++ at_most_one s.last) in
       record {
@@ -95,7 +94,7 @@ module _ {s : Proposing} {p : Progress} (f : Follows s p) where
         past false t = omega (arith, counted_many pair_manifolds (length ms) (leb-false (length ms) pair_manifolds t))
 
     follows_manifold : length normal ≡ 3
-        → Follows (record { hook = s.hook; closed = ms; last = some new })
+        → Follows (record { hook = s.hook; closed = ms; last = Some new })
         (record { row = manifold_stored p.counts.manifolds ws p.row; counts = record { manifolds = raised pair_manifolds p.counts.manifolds; last = raised pair_manifolds p.counts.manifolds; points = 0 } })
     follows_manifold three =
         record {
@@ -113,7 +112,7 @@ counted_past limit n h = go (leb n limit) refl
     go true t = omega (arith, counted_few limit n (leb-true n limit t))
     go false t = omega (arith, counted_many limit n (leb-false n limit t))
 
-module _ {hook : ℕ} {closed : List Manifold} {m : Manifold} {p : Progress} (f : Follows (record { hook = hook; closed = closed; last = some m }) p) (ws point : List ℕ) (words : part ws 0 proposed_point_size ≡ point) where
+module _ {hook : ℕ} {closed : List Manifold} {m : Manifold} {p : Progress} (f : Follows (record { hook = hook; closed = closed; last = Some m }) p) (ws point : List ℕ) (words : part ws 0 proposed_point_size ≡ point) where
   abbrev k : ℕ
   k = length closed
 
@@ -209,7 +208,7 @@ module _ {hook : ℕ} {closed : List Manifold} {m : Manifold} {p : Progress} (f 
       go false e = stored_nowhere (ltb-false k pair_manifolds e)
 
   follows_point : length point ≡ proposed_point_size
-      → Follows (record { hook = hook; closed = closed; last = some then })
+      → Follows (record { hook = hook; closed = closed; last = Some then })
       (record { row = point_stored p.counts.last p.counts.points ws p.row; counts = record { manifolds = p.counts.manifolds; last = p.counts.last; points = raised proposed_points p.counts.points } })
   follows_point twelve =
       record {
@@ -244,11 +243,11 @@ module _ (a b : ℕ) {s : Proposing} {p : Progress} (f : Follows s p) {ws : List
       go false w = f
 
   manifold_follows : l.letter ≡ manifold_letter
-      → Follows (record { hook = s.hook; closed = s.closed ++ at_most_one s.last; last = cond (of_pair a b l) (some (new_manifold l)) none }) (manifold_taken a b ws p)
+      → Follows (record { hook = s.hook; closed = s.closed ++ at_most_one s.last; last = cond (of_pair a b l) (Some (new_manifold l)) None }) (manifold_taken a b ws p)
   unfolding manifold_taken width_of
   manifold_follows e =
       let n : length l.words ≡ 5 = h.width ∙ ap width_of e in
-      subst (λ (x : Bool). Follows (record { hook = s.hook; closed = s.closed ++ at_most_one s.last; last = cond (of_pair a b l) (some (new_manifold l)) none }) (cond x own other))
+      subst (λ (x : Bool). Follows (record { hook = s.hook; closed = s.closed ++ at_most_one s.last; last = cond (of_pair a b l) (Some (new_manifold l)) None }) (cond x own other))
       (sym (same_pair_lem (omega arith))) (go (of_pair a b l) (held_rest h 2 3 (omega arith)) (omega (arith, length-drop 2 l.words)))
     where
       own : Progress
@@ -258,7 +257,7 @@ module _ (a b : ℕ) {s : Proposing} {p : Progress} (f : Follows s p) {ws : List
       other = record { row = p.row; counts = record { manifolds = p.counts.manifolds; last = 0; points = 0 } }
 
       go : (x : Bool) → part ws 2 3 ≡ drop 2 l.words → length (drop 2 l.words) ≡ 3
-          → Follows (record { hook = s.hook; closed = s.closed ++ at_most_one s.last; last = cond x (some (new_manifold l)) none }) (cond x own other)
+          → Follows (record { hook = s.hook; closed = s.closed ++ at_most_one s.last; last = cond x (Some (new_manifold l)) None }) (cond x own other)
       go true w three = follows_manifold f ws (drop 2 l.words) w three
       go false w three = follows_other f
 
@@ -266,13 +265,13 @@ module _ (a b : ℕ) {s : Proposing} {p : Progress} (f : Follows s p) {ws : List
 point_follows : (hook : ℕ) (closed : List Manifold) (last : Option Manifold) {p : Progress} → Follows (record { hook = hook; closed = closed; last = last }) p → {ws : List ℕ} {l : Line} → Held ws l → l.letter ≡ point_letter
     → Follows (record { hook = hook; closed = closed; last = with_point last l }) (point_taken ws p)
 unfolding point_taken width_of
-point_follows hook closed none {p} f {ws} {l} h e =
-    subst (λ (x : Bool). Follows (record { hook = hook; closed = closed; last = none }) (cond x p (record { row = point_stored p.counts.last p.counts.points ws p.row; counts = record { manifolds = p.counts.manifolds; last = p.counts.last; points = raised proposed_points p.counts.points } })))
+point_follows hook closed None {p} f {ws} {l} h e =
+    subst (λ (x : Bool). Follows (record { hook = hook; closed = closed; last = None }) (cond x p (record { row = point_stored p.counts.last p.counts.points ws p.row; counts = record { manifolds = p.counts.manifolds; last = p.counts.last; points = raised proposed_points p.counts.points } })))
     (sym (ap (λ (n : ℕ). eqb n 0) f.last)) f
-point_follows hook closed (some m) {p} f {ws} {l} h e =
+point_follows hook closed (Some m) {p} f {ws} {l} h e =
     let n : length l.words ≡ proposed_point_size = h.width ∙ ap width_of e in
     let some-stand : p.counts.last ≡ 0 → ⊥ = λ z. omega (arith, number f ws l.words (held_rest h 0 proposed_point_size (omega arith)), counted_some (length closed)) in
-    subst (λ (x : Bool). Follows (record { hook = hook; closed = closed; last = some (pointed m l.words) }) (cond x p (record { row = point_stored p.counts.last p.counts.points ws p.row; counts = record { manifolds = p.counts.manifolds; last = p.counts.last; points = raised proposed_points p.counts.points } })))
+    subst (λ (x : Bool). Follows (record { hook = hook; closed = closed; last = Some (pointed m l.words) }) (cond x p (record { row = point_stored p.counts.last p.counts.points ws p.row; counts = record { manifolds = p.counts.manifolds; last = p.counts.last; points = raised proposed_points p.counts.points } })))
     (sym (ne_eqb p.counts.last 0 some-stand)) (follows_point f ws l.words (held_rest h 0 proposed_point_size (omega arith)) n)
   where
     counted_some : (n : ℕ) → 0 < counted pair_manifolds (n + 1)
@@ -289,7 +288,7 @@ line_follows a b {s} {p} {ws} {l} f h = pick (eqb l.letter hook_letter) (eqb l.l
     pick : (x y z : Bool) → eqb l.letter hook_letter ≡ x → eqb l.letter manifold_letter ≡ y → eqb l.letter point_letter ≡ z
         → Follows
         (cond x (cond (of_pair a b l) (record { hook = word_of l 2; closed = s.closed; last = s.last }) s)
-        (cond y (record { hook = s.hook; closed = s.closed ++ at_most_one s.last; last = cond (of_pair a b l) (some (new_manifold l)) none })
+        (cond y (record { hook = s.hook; closed = s.closed ++ at_most_one s.last; last = cond (of_pair a b l) (Some (new_manifold l)) None })
         (cond z (record { hook = s.hook; closed = s.closed; last = with_point s.last l }) s)))
         (cond x (record { row = hook_taken a b ws p.row; counts = p.counts }) (cond y (manifold_taken a b ws p) (cond z (point_taken ws p) p)))
     pick true y z d e g = hook_follows a b f h (eqb-true l.letter hook_letter d)

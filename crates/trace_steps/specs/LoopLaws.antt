@@ -17,6 +17,7 @@ use Rattle.trace_rules.specs.Fields.{Line, addition_letter, settings_letter, col
 use Rattle.trace_rules.specs.Places.{lines_between}
 use Rattle.trace_rules.specs.Play.{proposal_words, with_manifolds}
 use Rattle.trace_rules.specs.Records.{word_of, fold, settings_after, record_after, Proposing, proposed, unproposed, proposing_after, step_record}
+use Rattle.trace_lines.specs.Items.{letter_of}
 use Rattle.trace_lines.specs.Promises.{LineIs}
 use Rattle.trace_lines.specs.Widths.{width_of}
 use Rattle.trace_lines.specs.WidthLaws.{line_width}
@@ -44,14 +45,14 @@ width_most letter =
     (either_most (eqb letter manifold_letter) 5 _ (omega arith) (either_most (eqb letter point_letter) proposed_point_size 0 (omega arith) (omega arith)))))))
 
 abbrev pub line_of : {xs : List ℕ} {at : ℕ} {ws ws' : List ℕ} {l : ReadLine} → LineIs xs at ws ws' l → Line
-line_of {l = l} r = record { letter = l.letter; words = r.fields; fits = l.fits }
+line_of {l = l} r = record { letter = letter_of l.kind; words = r.fields; fits = l.fits }
 
 module _ {xs : List ℕ} {at : ℕ} {ws ws' : List ℕ} {l : ReadLine} (r : LineIs xs at ws ws' l) where
   -- its words stand at the front of the row
   pub line_held : length ws ≡ body_size → Held ws' (line_of r)
   line_held n =
-      let w : length r.fields ≡ width_of l.letter = line_width (drop at xs) (record { value = line_of r; rest = drop l.next xs }) r.read in
-      let m = width_most l.letter in
+      let w : length r.fields ≡ width_of (letter_of l.kind) = line_width (drop at xs) (record { value = line_of r; rest = drop l.next xs }) r.read in
+      let m = width_most (letter_of l.kind) in
       record { front = ap (λ (vs : List ℕ). part vs 0 (length r.fields)) r.stored ∙ part_put ws 0 r.fields (length r.fields) refl (omega arith); width = w }
 
   pub line_size : length ws ≡ body_size → length ws' ≡ body_size
@@ -105,7 +106,7 @@ module _ (text : List ℕ) (start stop : ℕ) where
       }
 
   module _ {s c b : List ℕ} {at : ℕ} (q : RowsRead text start stop s c b at) where
-    pub rows_next : {ws ws' : List ℕ} {l : ReadLine} {s' c' b' : List ℕ} → at < stop → length ws ≡ body_size → LineIs text at ws ws' l → RowsTaken l.letter ws' s c b s' c' b' → RowsRead text start stop s' c' b' l.next
+    pub rows_next : {ws ws' : List ℕ} {l : ReadLine} {s' c' b' : List ℕ} → at < stop → length ws ≡ body_size → LineIs text at ws ws' l → RowsTaken (letter_of l.kind) ws' s c b s' c' b' → RowsRead text start stop s' c' b' l.next
     unfolding width_of
     rows_next {l = l} h n r t =
         let held = line_held r n in
@@ -144,7 +145,7 @@ module _ (text : List ℕ) (start stop a b : ℕ) where
   proposal_begun = record { state = unproposed; follows = record { row = refl; manifolds = refl; last = refl }; whole = refl }
 
   module _ {row : List ℕ} {c : Counts} {at : ℕ} (q : ProposalRead text start stop a b row c at) where
-    pub proposal_next : {ws ws' : List ℕ} {l : ReadLine} {row' : List ℕ} {c' : Counts} → at < stop → length ws ≡ body_size → LineIs text at ws ws' l → progress row' c' ≡ line_taken a b l.letter ws' (progress row c)
+    pub proposal_next : {ws ws' : List ℕ} {l : ReadLine} {row' : List ℕ} {c' : Counts} → at < stop → length ws ≡ body_size → LineIs text at ws ws' l → progress row' c' ≡ line_taken a b (letter_of l.kind) ws' (progress row c)
         → ProposalRead text start stop a b row' c' l.next
     proposal_next {l = l} h n r e =
         record {

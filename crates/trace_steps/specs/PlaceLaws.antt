@@ -1,7 +1,6 @@
 -- The lines of a stretch of text, one after another. Assumes nothing.
-use Rattle.std.specs.Prelude.{ℕ, zero, suc, ◌-◌, ◌≤◌, ◌<◌, ◌≡◌, refl, Bool, true, false, cond, List, [], ◌∷◌, ◌++◌, ltb, length, drop}
+use Rattle.std.specs.Prelude.{ℕ, zero, suc, ◌-◌, ◌≤◌, ◌<◌, ◌≡◌, refl, Bool, true, false, cond, List, [], ◌∷◌, ◌++◌, ltb, length, drop, Option, None, Some}
 use Rattle.std.proofs.Common.{arith, sym, ap, ◌∙◌, append_assoc, append-nil, lt-ltb, le-ltb, length-drop, drop_of_length-le}
-use Rattle.std.proofs.Math.Option.{Option, none, some}
 use Rattle.text.specs.Text.{Taken}
 use Rattle.trace_rules.specs.Fields.{Line, read_line}
 use Rattle.trace_rules.specs.Places.{place_of, lines_from, lines_within, lines_between}
@@ -31,8 +30,8 @@ within_enough (suc n) (suc m) xs at stop h l =
     go : (o : Option (Taken Line)) → read_line (drop at xs) ≡ o
         → ((t : Taken Line) → length t.rest < length (drop at xs) → lines_within n xs (place_of xs t.rest) stop ≡ lines_within m xs (place_of xs t.rest) stop)
         → lines_from o (λ t. t.value ∷ lines_within n xs (place_of xs t.rest) stop) ≡ lines_from o (λ t. t.value ∷ lines_within m xs (place_of xs t.rest) stop)
-    go none e r = refl
-    go (some t) e r = ap (λ (ls : List Line). t.value ∷ ls) (r t (line_shorter (drop at xs) t e))
+    go None e r = refl
+    go (Some t) e r = ap (λ (ls : List Line). t.value ∷ ls) (r t (line_shorter (drop at xs) t e))
 
 -- one turn
 between_turn : (xs : List ℕ) (at stop : ℕ) → lines_between xs at stop ≡ cond (ltb at stop) (lines_from (read_line (drop at xs)) (λ t. t.value ∷ lines_between xs (place_of xs t.rest) stop)) []
@@ -43,7 +42,7 @@ place_of_drop : (xs : List ℕ) (next : ℕ) → next ≤ length xs → place_of
 place_of_drop xs next h = omega (arith, length-drop next xs)
 
 -- a line that begins below the stop is the first
-pub lines_next : (xs : List ℕ) (at stop next : ℕ) (l : Line) → at < stop → read_line (drop at xs) ≡ some (record { value = l; rest = drop next xs }) → next ≤ length xs
+pub lines_next : (xs : List ℕ) (at stop next : ℕ) (l : Line) → at < stop → read_line (drop at xs) ≡ Some (record { value = l; rest = drop next xs }) → next ≤ length xs
     → lines_between xs at stop ≡ l ∷ lines_between xs next stop
 lines_next xs at stop next l h e n =
     between_turn xs at stop
@@ -58,7 +57,7 @@ lines_stop xs at stop h =
     ∙ ap (λ (b : Bool). cond b (lines_from (read_line (drop at xs)) (λ t. t.value ∷ lines_between xs (place_of xs t.rest) stop)) []) (le-ltb at stop h)
 
 -- what can't be read ends them
-pub lines_unreadable : (xs : List ℕ) (at stop : ℕ) → read_line (drop at xs) ≡ none → lines_between xs at stop ≡ []
+pub lines_unreadable : (xs : List ℕ) (at stop : ℕ) → read_line (drop at xs) ≡ None → lines_between xs at stop ≡ []
 lines_unreadable xs at stop e =
     between_turn xs at stop
     ∙ ap (λ (o : Option (Taken Line)). cond (ltb at stop) (lines_from o (λ t. t.value ∷ lines_between xs (place_of xs t.rest) stop)) []) e
@@ -72,7 +71,7 @@ pub reached_here : (xs : List ℕ) (at : ℕ) → Reached xs at at []
 reached_here xs at = record { ahead = λ stop h. refl }
 
 -- one line further
-pub reached_next : {xs : List ℕ} {start at : ℕ} {ls : List Line} (next : ℕ) (l : Line) → Reached xs start at ls → read_line (drop at xs) ≡ some (record { value = l; rest = drop next xs }) → at < next
+pub reached_next : {xs : List ℕ} {start at : ℕ} {ls : List Line} (next : ℕ) (l : Line) → Reached xs start at ls → read_line (drop at xs) ≡ Some (record { value = l; rest = drop next xs }) → at < next
     → next ≤ length xs → Reached xs start next (ls ++ l ∷ [])
 reached_next {xs} {start} {at} {ls} next l r e h n =
     record {

@@ -1,8 +1,7 @@
 -- A text's lines in turn: more turns than there are bytes change nothing. Assumes nothing.
-use Rattle.std.specs.Prelude.{ℕ, zero, suc, ◌≤◌, ◌<◌, ◌≡◌, refl, true, false}
+use Rattle.std.specs.Prelude.{ℕ, zero, suc, ◌≤◌, ◌<◌, ◌≡◌, refl, true, false, Option, None, Some}
 use Rattle.std.proofs.Common.{arith, ap, ◌∙◌}
 use mathlib.Core.List.{List, [], ◌∷◌}
-use Rattle.std.proofs.Math.Option.{Option, none, some}
 use Rattle.std.proofs.Math.ListN.{length}
 use Rattle.text.specs.Text.{Taken}
 use Rattle.trace_rules.specs.Fields.{Line, read_line}
@@ -13,13 +12,13 @@ use Rattle.trace_steps.specs.EndLaws.{line_shorter}
 abbrev turn : (Context → List ℕ → Reading) → Context → Option (Taken Line) → Reading
 turn f c o = or_unreadable o (λ t. or_unreadable (follow c t.value) (λ d. begins t.value (f d t.rest)))
 
-turn_same : (f g : Context → List ℕ → Reading) (c : Context) (o : Option (Taken Line)) → ((t : Taken Line) → o ≡ some t → (d : Context) → f d t.rest ≡ g d t.rest) → turn f c o ≡ turn g c o
-turn_same f g c none e = refl
-turn_same f g c (some t) e = go (follow c t.value)
+turn_same : (f g : Context → List ℕ → Reading) (c : Context) (o : Option (Taken Line)) → ((t : Taken Line) → o ≡ Some t → (d : Context) → f d t.rest ≡ g d t.rest) → turn f c o ≡ turn g c o
+turn_same f g c None e = refl
+turn_same f g c (Some t) e = go (follow c t.value)
   where
     go : (o : Option Context) → or_unreadable o (λ d. begins t.value (f d t.rest)) ≡ or_unreadable o (λ d. begins t.value (g d t.rest))
-    go none = refl
-    go (some d) = ap (begins t.value) (e t refl d)
+    go None = refl
+    go (Some d) = ap (begins t.value) (e t refl d)
 
 lines_enough : (n m : ℕ) (c : Context) (xs : List ℕ) → length xs ≤ n → length xs ≤ m → read_lines n c xs ≡ read_lines m c xs
 unfolding read_lines at_end
@@ -57,11 +56,11 @@ module _ (c : Context) (xs : List ℕ) (some_left : 0 < length xs) where
           turn_same (read_lines (length ys)) reading_from c (read_line (y ∷ ys))
           (λ t e d. let s : length t.rest < length (y ∷ ys) = line_shorter (y ∷ ys) t e in lines_enough (length ys) (length t.rest) d t.rest (omega arith) (omega arith))
 
-  pub reading_unreadable : read_line xs ≡ none → reading_from c xs ≡ ends true
+  pub reading_unreadable : read_line xs ≡ None → reading_from c xs ≡ ends true
   reading_unreadable e = one_turn ∙ ap (turn reading_from c) e
 
-  pub reading_misplaced : (t : Taken Line) → read_line xs ≡ some t → follow c t.value ≡ none → reading_from c xs ≡ ends true
+  pub reading_misplaced : (t : Taken Line) → read_line xs ≡ Some t → follow c t.value ≡ None → reading_from c xs ≡ ends true
   reading_misplaced t e n = one_turn ∙ ap (turn reading_from c) e ∙ ap (λ (o : Option Context). or_unreadable o (λ d. begins t.value (reading_from d t.rest))) n
 
-  pub reading_next : (t : Taken Line) (d : Context) → read_line xs ≡ some t → follow c t.value ≡ some d → reading_from c xs ≡ begins t.value (reading_from d t.rest)
+  pub reading_next : (t : Taken Line) (d : Context) → read_line xs ≡ Some t → follow c t.value ≡ Some d → reading_from c xs ≡ begins t.value (reading_from d t.rest)
   reading_next t d e n = one_turn ∙ ap (turn reading_from c) e ∙ ap (λ (o : Option Context). or_unreadable o (λ d. begins t.value (reading_from d t.rest))) n

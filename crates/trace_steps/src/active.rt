@@ -10,11 +10,11 @@ ghost use Rattle.trace_rules.specs.Records.{step_record};
 
 use crate::proposal::fill_proposal;
 use contact_graph::lay_out::clear;
-use contact_range::places::{contact_at, id_at, number_at};
+use contact_range::places::{contact_at, id_at};
 use layout::contact::CONTACT_COLLIDER2;
 use layout::graph::{GRAPH_LIST, GRAPH_LISTED};
 use layout::proposal::PROPOSAL_SIZE;
-use words::row::load_word;
+use words::load::load;
 
 // The proposal of the contact at place p of the list.
 fn fill_listed(
@@ -30,8 +30,8 @@ fn fill_listed(
 {
     let id = id_at(graph, GRAPH_LIST + p);
     let at = contact_at(graph, id);
-    let a = load_word(graph, at);
-    let b = load_word(graph, at + CONTACT_COLLIDER2);
+    let a = load::<u32>(graph, at);
+    let b = load::<u32>(graph, at + CONTACT_COLLIDER2);
     let place = id.0 as usize * PROPOSAL_SIZE;
     fill_proposal(text, start, stop, a, b, proposals, place);
 }
@@ -42,10 +42,8 @@ pub fn fill_proposals(text: &[u8], start: usize, stop: usize, graph: &[u32], pro
     ensures { proposals.new ≡ proposals_of (step_record (lines_between text.now start stop)).proposal graph.now }
 {
     clear(proposals);
-    let listed = number_at(graph, GRAPH_LISTED);
-    let mut p = 0;
-    while p < listed {
+    let listed = load::<usize>(graph, GRAPH_LISTED);
+    for p in 0..listed {
         fill_listed(text, start, stop, graph, p, proposals);
-        p += 1;
     }
 }

@@ -4,6 +4,7 @@ ghost use Rattle.rows.specs.Rows.{put};
 ghost use Rattle.rules.specs.Limits.{proposed_points};
 ghost use Rattle.layout.specs.Proposal.{proposal_hook, proposal_size};
 ghost use Rattle.manifold_records.specs.Written.{zeros};
+ghost use Rattle.trace_lines.specs.Items.{letter_of};
 ghost use Rattle.trace_rules.specs.Places.{lines_between};
 ghost use Rattle.trace_rules.specs.Play.{proposal_words};
 ghost use Rattle.trace_rules.specs.Records.{step_record};
@@ -16,7 +17,8 @@ use layout::proposal::{
     PROPOSAL_COUNT, PROPOSAL_HOOK, PROPOSAL_MANIFOLDS, PROPOSAL_SIZE, PROPOSED_MANIFOLD_NORMAL,
     PROPOSED_MANIFOLD_POINTS, PROPOSED_MANIFOLD_SIZE, PROPOSED_POINT_SIZE,
 };
-use trace_lines::line::{LINE_WORDS, LineRead, read_line};
+use trace_lines::line::{LINE_WORDS, read_line};
+use trace_lines::line_kind::LineKind;
 use words::row::store_words;
 
 // Behind its two colliders a line has the hook's answer, or the normal.
@@ -136,27 +138,26 @@ fn take_point(row: &mut [u32; PROPOSAL_SIZE], words: &[u32; LINE_WORDS], counts:
 }
 
 // One line: a hook's answer, a manifold, a point, or another that changes nothing here.
+#[tactic(auto, unfolding(crate::specs::Lines::line_taken))]
 fn take_line(
     row: &mut [u32; PROPOSAL_SIZE],
-    letter: u8,
+    kind: LineKind,
     words: &[u32; LINE_WORDS],
     a: u32,
     b: u32,
     counts: Counts,
 ) -> Counts
-    ensures { progress row.new result ≡ line_taken a b letter words.now (progress row.old counts) }
+    ensures { progress row.new result ≡ line_taken a b (letter_of kind) words.now (progress row.old counts) }
 {
-    if letter == b'H' {
-        take_hook(row, words, a, b);
-        return counts;
+    match kind {
+        LineKind::Hook => {
+            take_hook(row, words, a, b);
+            counts
+        }
+        LineKind::Manifold => take_manifold(row, words, a, b, counts),
+        LineKind::Point => take_point(row, words, counts),
+        _ => counts,
     }
-    if letter == b'M' {
-        return take_manifold(row, words, a, b, counts);
-    }
-    if letter == b'P' {
-        return take_point(row, words, counts);
-    }
-    counts
 }
 
 // The lines that begin at `start` or after it and before `stop`, into a row with the hook's yes alone.
@@ -179,10 +180,10 @@ fn read_proposal(
     };
     let mut at = start;
     while at < stop {
-        let LineRead::Line(line) = read_line(text, at, &mut words) else {
+        let Some(line) = read_line(text, at, &mut words) else {
             return;
         };
-        counts = take_line(row, line.letter, &words, a, b, counts);
+        counts = take_line(row, line.kind, &words, a, b, counts);
         at = line.next;
     }
 }

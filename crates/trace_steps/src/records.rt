@@ -4,25 +4,27 @@ ghost use Rattle.layout.specs.Body.{bodies_length};
 ghost use Rattle.layout.specs.Collider.{colliders_length};
 ghost use Rattle.layout.specs.Settings.{settings_length};
 ghost use Rattle.manifold_records.specs.Written.{zeros};
+ghost use Rattle.trace_lines.specs.Items.{letter_of};
 ghost use Rattle.trace_rules.specs.Places.{lines_between};
 ghost use Rattle.trace_steps.specs.Lines.{record_stored, RowsTaken};
 ghost use Rattle.trace_steps.specs.Promises.{RowsFilled};
 
 use crate::row::store_part;
 use contact_graph::lay_out::clear;
-use contact_range::places::number_at;
 use layout::body::BODY_SIZE;
 use layout::collider::COLLIDER_SIZE;
 use layout::limits::{BODIES, COLLIDERS};
 use layout::settings::SETTINGS_LENGTH;
-use trace_lines::line::{LINE_WORDS, LineRead, read_line};
+use trace_lines::line::{LINE_WORDS, read_line};
+use trace_lines::line_kind::LineKind;
+use words::load::load;
 
 // The record that the line's first word numbers, where there is one: a presence mark and the line's other words.
 fn store_record(words: &[u32], row: &mut [u32], count: usize, size: usize)
     requires { (length row.old ≡ count * size) × (0 < size) × (size ≤ length words.now) }
     ensures { row.new ≡ record_stored count size words.now row.old }
 {
-    let n = number_at(words, 0);
+    let n = load::<usize>(words, 0);
     if n >= count {
         return;
     }
@@ -32,27 +34,22 @@ fn store_record(words: &[u32], row: &mut [u32], count: usize, size: usize)
 }
 
 // One line: settings, a collider, a body, or another that changes nothing here.
+#[tactic(auto, unfolding(crate::specs::Lines::settings_taken))]
 fn take_line(
-    letter: u8,
+    kind: LineKind,
     words: &[u32; LINE_WORDS],
     settings: &mut [u32],
     colliders: &mut [u32],
     bodies: &mut [u32],
 )
     requires { (length settings.old ≡ settings_length) × (length colliders.old ≡ colliders_length) × (length bodies.old ≡ bodies_length) }
-    ensures { RowsTaken letter words.now settings.old colliders.old bodies.old settings.new colliders.new bodies.new }
+    ensures { RowsTaken (letter_of kind) words.now settings.old colliders.old bodies.old settings.new colliders.new bodies.new }
 {
-    if letter == b'T' {
-        store_part(settings, 0, words, 0, SETTINGS_LENGTH);
-        return;
-    }
-    if letter == b'C' {
-        store_record(words, colliders, COLLIDERS as usize, COLLIDER_SIZE);
-        return;
-    }
-    if letter == b'B' {
-        store_record(words, bodies, BODIES as usize, BODY_SIZE);
-        return;
+    match kind {
+        LineKind::Settings => store_part(settings, 0, words, 0, SETTINGS_LENGTH),
+        LineKind::Collider => store_record(words, colliders, COLLIDERS as usize, COLLIDER_SIZE),
+        LineKind::Body => store_record(words, bodies, BODIES as usize, BODY_SIZE),
+        _ => {}
     }
 }
 
@@ -71,10 +68,10 @@ fn read_rows(
     let mut words = [0u32; LINE_WORDS];
     let mut at = start;
     while at < stop {
-        let LineRead::Line(line) = read_line(text, at, &mut words) else {
+        let Some(line) = read_line(text, at, &mut words) else {
             return;
         };
-        take_line(line.letter, &words, settings, colliders, bodies);
+        take_line(line.kind, &words, settings, colliders, bodies);
         at = line.next;
     }
 }

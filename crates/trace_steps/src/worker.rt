@@ -7,23 +7,19 @@ ghost use Rattle.contact_range.specs.Recorded.{capacity_of};
 ghost use Rattle.update_pass.specs.Shared.{active_of};
 ghost use Rattle.trace_rules.specs.Play.{shares_of};
 
+use crate::row::store_part;
 use contact_graph::lay_out::clear;
-use contact_range::places::number_at;
 use layout::graph::{GRAPH_LIST, GRAPH_LISTED};
 use layout::shares::{SHARES_COUNTS, SHARES_ENTRIES, SHARES_WORKERS};
-use words::row::load_word;
+use words::load::load;
 
 // The worker's contacts.
 fn list_active(graph: &[u32], shares: &mut [u32])
     requires { Checked graph.now × (length shares.old ≡ shares_length (capacity_of graph.now)) }
     ensures { shares.new ≡ put shares.old shares_entries (active_of graph.now) }
 {
-    let listed = number_at(graph, GRAPH_LISTED);
-    let mut p = 0;
-    while p < listed {
-        shares[SHARES_ENTRIES + p] = graph[GRAPH_LIST + p];
-        p += 1;
-    }
+    let listed = load(graph, GRAPH_LISTED);
+    store_part(shares, SHARES_ENTRIES, graph, GRAPH_LIST, listed);
 }
 
 // Every word of the row.
@@ -33,6 +29,6 @@ pub fn fill_shares(graph: &[u32], shares: &mut [u32])
 {
     clear(shares);
     shares[SHARES_WORKERS] = 1;
-    shares[SHARES_COUNTS] = load_word(graph, GRAPH_LISTED);
+    shares[SHARES_COUNTS] = load::<u32>(graph, GRAPH_LISTED);
     list_active(graph, shares);
 }

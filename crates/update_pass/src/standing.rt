@@ -15,13 +15,11 @@ fn join(bits: &[u64], joined: &mut [u64], count: usize)
     requires { (length bits.now ≡ most_workers * count) × (count ≤ most_blocks) × (joined.old ≡ zeros count) }
     ensures { joined.new ≡ joined_parts count bits.now most_workers }
 {
-    let mut w = 0;
-    while w < MOST_WORKERS {
+    for w in 0..MOST_WORKERS {
         let from = w * count;
         let to = from + count;
         let part = &bits[from..to];
         or(joined, part);
-        w += 1;
     }
 }
 

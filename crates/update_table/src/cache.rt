@@ -1,13 +1,13 @@
 // A case's cache: of the two bodies as they are, or a little moved.
 use crate::record::swapped;
 use case_draws::bodies::rotation;
-use case_draws::draws::{draw, float, low, slot};
+use case_draws::draws::{Floats, draw, float, pick, slot};
 use case_draws::numbers::{
     BODY_POSITION, BODY_PRESENT, BODY_ROTATION, BODY_SIZE, CACHE_RELATIVE_ROTATION,
     CACHE_RELATIVE_TRANSLATION, CACHE_ROTATION1, CACHE_ROTATION2, CACHED_SIZE, COLLIDER_BODY,
     COLLIDER_SIZE, CONTACT_CACHED,
 };
-use case_draws::places::{put, word};
+use case_draws::places::{fill, word};
 use math::bits::{bits_of, float_of};
 use math::pose::Pose;
 use math::quat::Quat;
@@ -39,12 +39,12 @@ const TURNS: [u32; 8] = [
 
 // The i-th word of collider n.
 fn collider_place(n: u32, i: u32) -> u32 {
-    low(n as u64 * COLLIDER_SIZE as u64 + i as u64) as u32
+    COLLIDER_SIZE.wrapping_mul(n).wrapping_add(i)
 }
 
 // The i-th word of body n.
 fn body_place(n: u32, i: u32) -> u32 {
-    low(n as u64 * BODY_SIZE as u64 + i as u64) as u32
+    BODY_SIZE.wrapping_mul(n).wrapping_add(i)
 }
 
 // The j-th float from a place of body n on.
@@ -114,19 +114,11 @@ fn cache_of(a: Pose, b: Pose) -> [u32; LENGTH] {
 }
 
 fn translation_nudge(d: u32) -> u32 {
-    if d % 4 == 0 {
-        NUDGES[(d / 4 % 8) as usize]
-    } else {
-        0
-    }
+    if d % 4 == 0 { pick(&NUDGES, d / 4) } else { 0 }
 }
 
 fn rotation_nudge(d: u32) -> u32 {
-    if d % 6 == 0 {
-        TURNS[(d / 6 % 8) as usize]
-    } else {
-        0
-    }
+    if d % 6 == 0 { pick(&TURNS, d / 6) } else { 0 }
 }
 
 // One in four parts of the translation is moved, and one in six of the rotation.
@@ -155,7 +147,7 @@ fn turned(owner: u32, j: u32, w: u32) -> u32 {
 fn cache_word(case: u32, j: u32, w: u32) -> u32 {
     let owner = draw(case, 40);
     if draw(owner, 79) % 16 == 0 {
-        return float(owner, slot(80, j), 2);
+        return float(owner, slot(80, j), Floats::Awkward);
     }
     if j < RELATIVE_TRANSLATION {
         turned(owner, j, w)
@@ -174,13 +166,7 @@ fn drawn_cache(colliders: &[u32], bodies: &[u32], case: u32) -> [u32; LENGTH] {
 
 pub fn fill_cache(colliders: &[u32], bodies: &[u32], record: &mut [u32], case: u32) {
     let cache = drawn_cache(colliders, bodies, case);
-    let mut j = 0;
-    while j < LENGTH {
-        put(
-            record,
-            CONTACT_CACHED + j as u32,
-            cache_word(case, j as u32, cache[j]),
-        );
-        j += 1;
-    }
+    fill(record, CONTACT_CACHED, CACHED_SIZE, |j| {
+        cache_word(case, j, word(&cache, j))
+    });
 }

@@ -29,7 +29,7 @@ fn collider_number(owner: u32, i: u32) -> u32 {
 
 // A mark and a number: behind a mark of 0 any word.
 fn named_word(owner: u32, at: u32, j: u32) -> u32 {
-    let mark = one_in(owner, at, 2);
+    let mark = one_in(draw(owner, at), 2);
     let d = draw(owner, slot(at, 1));
     match j {
         0 => mark,
@@ -51,10 +51,10 @@ fn count_change(owner: u32) -> u32 {
 
 fn flag_word(owner: u32, i: u32) -> u32 {
     match i {
-        PAIR_TOUCHING => all_but_one_in(owner, i, 3),
-        PAIR_DISJOINT_AABB => one_in(owner, i, 16),
-        PAIR_MODIFY_CONTACTS => one_in(owner, i, 3),
-        _ => one_in(owner, i, 2),
+        PAIR_TOUCHING => all_but_one_in(draw(owner, i), 3),
+        PAIR_DISJOINT_AABB => one_in(draw(owner, i), 16),
+        PAIR_MODIFY_CONTACTS => one_in(draw(owner, i), 3),
+        _ => one_in(draw(owner, i), 2),
     }
 }
 
@@ -71,7 +71,7 @@ fn head_word(owner: u32, i: u32) -> u32 {
         CONTACT_EDGE_FLAGS..CONTACT_COUNT_CHANGE => flag_word(owner, i),
         CONTACT_COUNT_CHANGE => count_change(owner),
         CONTACT_SPECULATIVE_DISTANCE => speculative_word(draw(owner, i)),
-        CONTACT_CACHE => all_but_one_in(owner, i, 10),
+        CONTACT_CACHE => all_but_one_in(draw(owner, i), 10),
         CONTACT_MANIFOLDS => draw(owner, i) % MANIFOLD_COUNTS,
         _ => 0,
     }

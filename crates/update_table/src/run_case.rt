@@ -1,8 +1,16 @@
-// One case through the update, where its words are in range.
+// One case: its rows, and the update of its record where all are in range.
+use crate::cache::fill_cache;
+use crate::record::record_word;
+use case_draws::bodies::body_word;
+use case_draws::colliders::collider_word;
+use case_draws::manifolds::proposal_word;
+use case_draws::numbers;
+use case_draws::places::{fill, fill_nth};
+use case_draws::settings::setting_word;
 use collider::range::colliders_fit;
 use collider::settings::load_settings;
 use contact_range::range::contact_fits;
-use contact_update::record::update_record;
+use contact_update::record::{Outcome, update_record};
 use layout::body::BODIES_LENGTH;
 use layout::collider::COLLIDERS_LENGTH;
 use layout::contact::CONTACT_SIZE;
@@ -11,60 +19,71 @@ use layout::settings::SETTINGS_LENGTH;
 use proposals::proposal::proposal_fits;
 
 #[derive(Clone, Copy)]
-pub struct CaseOutcome {
-    // The words are in range, and the update was made.
-    pub ran: bool,
-    pub bit: bool,
-    pub recycled: bool,
-    pub distance: f32,
+pub struct Case {
+    settings: [u32; SETTINGS_LENGTH],
+    colliders: [u32; COLLIDERS_LENGTH],
+    bodies: [u32; BODIES_LENGTH],
+    proposal: [u32; PROPOSAL_SIZE],
+    pub record: [u32; CONTACT_SIZE],
 }
 
-impl CaseOutcome {
-    const REFUSED: Self = CaseOutcome {
-        ran: false,
-        bit: false,
-        recycled: false,
-        distance: 0.0,
-    };
-}
+impl Case {
+    pub fn new() -> Self {
+        Case {
+            settings: [0; SETTINGS_LENGTH],
+            colliders: [0; COLLIDERS_LENGTH],
+            bodies: [0; BODIES_LENGTH],
+            proposal: [0; PROPOSAL_SIZE],
+            record: [0; CONTACT_SIZE],
+        }
+    }
 
-pub fn run_case(
-    settings: &[u32],
-    colliders: &[u32],
-    bodies: &[u32],
-    proposal: &[u32],
-    record: &mut [u32],
-) -> CaseOutcome {
-    if settings.len() != SETTINGS_LENGTH {
-        return CaseOutcome::REFUSED;
+    fn fill_collider(&mut self, n: u32, case: u32) {
+        fill_nth(&mut self.colliders, n, numbers::COLLIDER_SIZE, |i| {
+            collider_word(case, n, i)
+        });
     }
-    if colliders.len() != COLLIDERS_LENGTH {
-        return CaseOutcome::REFUSED;
+
+    fn fill_body(&mut self, n: u32, case: u32) {
+        fill_nth(&mut self.bodies, n, numbers::BODY_SIZE, |i| {
+            body_word(case, n, i)
+        });
     }
-    if bodies.len() != BODIES_LENGTH {
-        return CaseOutcome::REFUSED;
+
+    pub fn draw(&mut self, case: u32) {
+        fill(&mut self.settings, 0, numbers::SETTINGS_LENGTH, |i| {
+            setting_word(case, i)
+        });
+        for n in 0..2 {
+            self.fill_collider(n, case);
+            self.fill_body(n, case);
+        }
+        fill(&mut self.proposal, 0, numbers::PROPOSAL_SIZE, |i| {
+            proposal_word(case, i)
+        });
+        fill(&mut self.record, 0, numbers::CONTACT_SIZE, |i| {
+            record_word(case, i)
+        });
+        fill_cache(&self.colliders, &self.bodies, &mut self.record, case);
     }
-    if proposal.len() != PROPOSAL_SIZE {
-        return CaseOutcome::REFUSED;
-    }
-    if record.len() != CONTACT_SIZE {
-        return CaseOutcome::REFUSED;
-    }
-    if !colliders_fit(colliders) {
-        return CaseOutcome::REFUSED;
-    }
-    if !proposal_fits(proposal, 0) {
-        return CaseOutcome::REFUSED;
-    }
-    if !contact_fits(record, 0) {
-        return CaseOutcome::REFUSED;
-    }
-    let s = load_settings(settings);
-    let o = update_record(s, colliders, bodies, proposal, record);
-    CaseOutcome {
-        ran: true,
-        bit: o.bit,
-        recycled: o.recycled,
-        distance: o.max_contact_distance,
+
+    // None where a word is out of range.
+    pub fn update(&mut self) -> Option<Outcome> {
+        if !colliders_fit(&self.colliders) {
+            return None;
+        }
+        if !proposal_fits(&self.proposal, 0) {
+            return None;
+        }
+        if !contact_fits(&self.record, 0) {
+            return None;
+        }
+        Some(update_record(
+            load_settings(&self.settings),
+            &self.colliders,
+            &self.bodies,
+            &self.proposal,
+            &mut self.record,
+        ))
     }
 }

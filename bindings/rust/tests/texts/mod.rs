@@ -171,9 +171,12 @@ pub fn header_enum(name: &str) -> Vec<(String, u32)> {
 /// Names and numbers of the library's refusals, by its own source.
 pub fn library_refusals() -> Vec<(String, u32)> {
     let source = read("crates/contact_types/src/refusal.rt");
-    let arms = source.lines().filter_map(|line| {
-        let (name, number) = line.trim().strip_prefix("Refusal::")?.split_once(" => ")?;
+    let body = between(&source, "pub enum Refusal {", "}")
+        .next()
+        .expect("the library has the enum");
+    let variants = body.lines().filter_map(|line| {
+        let (name, number) = line.trim().split_once(" = ")?;
         Some((screaming(name), number.trim_end_matches(',').parse().ok()?))
     });
-    arms.collect()
+    variants.collect()
 }

@@ -1,11 +1,9 @@
 -- `collider::surface::restitution_of` meets its contract. Assumes nothing.
 use Rattle.rules.specs.Surface.{restitution_of}
+use Rattle.collider.specs.Views.{plain_coefficient}
+use Rattle.collider.proofs.GivenLaws.{seen_or_else}
 use Rattle.collider.proofs.surface.restitution_of.Goals as goal
 
-pub returns-in-Given : goal.returns-in-Given
+pub returns : goal.returns
 unfolding restitution_of
-returns-in-Given c = rw c.in-Given.is
-
-pub returns-in-Absent : goal.returns-in-Absent
-unfolding restitution_of
-returns-in-Absent c = rw c.in-Absent.is
+returns c = rw c.unwrap_or.ensures (seen_or_else plain_coefficient c.args.c.restitution c.args.s.default_restitution)

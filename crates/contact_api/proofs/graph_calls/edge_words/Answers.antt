@@ -3,4 +3,4 @@ use Rattle.contact_api.specs.CallLaws.{edge_words_lem}
 use Rattle.contact_api.proofs.graph_calls.edge_words.Goals as goal
 
 pub returns : goal.returns
-returns c = edge_words_lem _ c.body_words-body1.ensures c.body_words-body2.ensures c.mark_word-touching.ensures c.mark_word-contact_events.ensures
+returns c = edge_words_lem _ c.optional_words.ensures c.optional_words-2.ensures c.mark_word.ensures c.mark_word-2.ensures

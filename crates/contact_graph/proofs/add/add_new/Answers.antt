@@ -22,25 +22,27 @@ store_new-requires c = (c.requires.1, c.contact_at-at.ensures.room)
 next_place : {g : List ℕ} {n m : ℕ} → AddRoom g → n ≡ listed_count g → m ≡ length g → 4 + n < m
 next_place z p q = omega (arith, z.listed, p, q)
 
-pub store_word-requires : goal.store_word-requires
-store_word-requires c = next_place (add_room c.requires.0 c.requires.2) c.load_word-listed.ensures (ap length c.store_new.ensures ∙ length_put _ _ _)
+pub store-requires : goal.store-requires
+store-requires c =
+    let z = next_place (add_room c.requires.0 c.requires.2) c.load-listed.ensures (ap length c.store_new.ensures ∙ length_put _ _ _) in
+    omega arith
 
 pub next_given-now_given-requires : goal.next_given-now_given-requires
-next_given-now_given-requires c = let z = add_room c.requires.0 c.requires.2 in omega (arith, c.load_word-given.ensures)
+next_given-now_given-requires c = let z = add_room c.requires.0 c.requires.2 in omega (arith, c.load-given.ensures)
 
 pub overflow_add-listed-2 : goal.overflow_add-listed-2
-overflow_add-listed-2 c = let z = add_room c.requires.0 c.requires.2 in omega (arith, c.load_word-listed.ensures)
+overflow_add-listed-2 c = let z = add_room c.requires.0 c.requires.2 in omega (arith, c.load-listed.ensures)
 
 pub store_three-requires : goal.store_three-requires
 store_three-requires c =
-    let z = next_place (add_room c.requires.0 c.requires.2) c.load_word-listed.ensures (ap length c.store_new.ensures ∙ length_put _ _ _) in
-    omega (arith, ap length c.store_word.ensures ∙ length_put _ _ _)
+    let z = next_place (add_room c.requires.0 c.requires.2) c.load-listed.ensures (ap length c.store_new.ensures ∙ length_put _ _ _) in
+    omega (arith, ap length c.store.ensures ∙ length_put _ _ _)
 
 pub returns : goal.returns
 returns c =
     record {
       id = c.new_id-new.ensures;
       graph =
-          add_stored c.args.graph.now c.args.a c.new_id-new.ensures c.contact_at-at.ensures.place c.load_word-listed.ensures c.load_word-given.ensures c.load_word-freed.ensures
-          c.store_new.ensures c.store_word.ensures c.next_given-now_given.ensures refl c.next_freed-now_freed.ensures c.store_three.ensures;
+          add_stored c.args.graph.now c.args.a c.new_id-new.ensures c.contact_at-at.ensures.place c.load-listed.ensures c.load-given.ensures c.load-freed.ensures
+          c.store_new.ensures c.store.ensures c.next_given-now_given.ensures refl c.next_freed-now_freed.ensures c.store_three.ensures;
     }

@@ -12,16 +12,16 @@ pub returns-then-freed-eq0 : goal.returns-then-freed-eq0
 unfolding new_id_of
 returns-then-freed-eq0 c =
     let at = c in
-    rw (eq-eqb _ 0 (sym at.number_at-freed.ensures ∙ at.if-freed-eq0.true)) c.id_at.ensures
+    rw (eq-eqb _ 0 (sym at.load-freed.ensures ∙ at.if-freed-eq0.true)) c.id_at.ensures
 
 pub free_at-requires : goal.free_at-requires
 free_at-requires c =
     let s = c in
     let n = counts s.requires.range in
-    (s.requires.right, omega (arith, c.number_at-freed.ensures, c.if-freed-eq0.false))
+    (s.requires.right, omega (arith, c.load-freed.ensures, c.if-freed-eq0.false))
 
 pub returns : goal.returns
 unfolding new_id_of
 returns c =
     let at = c in
-    rw (ne_eqb _ 0 (λ e. at.if-freed-eq0.false (at.number_at-freed.ensures ∙ e))) (c.free_at.ensures ∙ ap (λ (n : ℕ). free_at at.args.graph.now (n - 1)) at.number_at-freed.ensures)
+    rw (ne_eqb _ 0 (λ e. at.if-freed-eq0.false (at.load-freed.ensures ∙ e))) (c.free_at.ensures ∙ ap (λ (n : ℕ). free_at at.args.graph.now (n - 1)) at.load-freed.ensures)

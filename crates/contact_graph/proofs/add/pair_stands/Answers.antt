@@ -1,6 +1,6 @@
 -- `contact_graph::add::pair_stands` meets its contract: no pair passed is the same. Assumes nothing.
 use mathlib.Core.Path.{◌≡◌, sym, ap, ◌∙◌}
-use mathlib.Core.Bool.{Bool, true, false}
+use mathlib.Core.Bool.{Bool}
 use mathlib.Core.List.{List}
 use Prim.Native.Nat.{ℕ, ◌+◌, ◌<◌, ◌-◌}
 use native.Mathlib.Nat.{not-suc-le-zero}
@@ -39,14 +39,14 @@ within : {p n m : ℕ} → p < n → n ≡ m → p < m
 within h e = omega (arith, h, e)
 
 pub overflow_add-p : goal.overflow_add-p
-overflow_add-p c = omega (arith, small c.requires (within c.loop-p-test.true c.number_at-listed.ensures))
+overflow_add-p c = omega (arith, small c.requires (within c.loop-p-test.true c.load-listed.ensures))
 
 pub id_at-id-requires : goal.id_at-id-requires
-id_at-id-requires c = inside c.requires (within c.loop-p-test.true c.number_at-listed.ensures)
+id_at-id-requires c = inside c.requires (within c.loop-p-test.true c.load-listed.ensures)
 
 pub contact_at-at-requires : goal.contact_at-at-requires
 contact_at-at-requires c =
-    let b = listed_below c.requires.range c.loop-p.p (within c.loop-p-test.true c.number_at-listed.ensures) in
+    let b = listed_below c.requires.range c.loop-p.p (within c.loop-p-test.true c.load-listed.ensures) in
     (c.requires.right, omega (arith, c.id_at-id.ensures))
 
 -- what the comparison says of the pair at that place
@@ -61,22 +61,16 @@ pub returns-then-same_colliders : goal.returns-then-same_colliders
 unfolding pair_stands
 returns-then-same_colliders c =
     let s = c.args in
-    sym (any_at (same s.graph.now s.a s.b) (listed_count s.graph.now) c.loop-p.p (within c.loop-p-test.true c.number_at-listed.ensures) (sym (compared s.graph.now s.a s.b c.loop-p.p c.same_colliders.ensures c.load_word.ensures c.load_word-in-loop-p.ensures c.contact_at-at.ensures.place c.id_at-id.ensures) ∙ c.if-same_colliders.true))
-
-pub overflow_add-p-in-loop-p : goal.overflow_add-p-in-loop-p
-overflow_add-p-in-loop-p c = omega (arith, small c.requires (within c.loop-p-test.true c.number_at-listed.ensures))
-
-pub loop-p-smaller : goal.loop-p-smaller
-loop-p-smaller c = omega (arith, within c.loop-p-test.true c.number_at-listed.ensures)
+    sym (any_at (same s.graph.now s.a s.b) (listed_count s.graph.now) c.loop-p.p (within c.loop-p-test.true c.load-listed.ensures) (sym (compared s.graph.now s.a s.b c.loop-p.p c.same_colliders.ensures c.load.ensures c.load-in-loop-p.ensures c.contact_at-at.ensures.place c.id_at-id.ensures) ∙ c.if-same_colliders.true))
 
 pub loop-p-preserved : goal.loop-p-preserved
 loop-p-preserved c =
     let s = c.args in
-    (omega (arith, within c.loop-p-test.true c.number_at-listed.ensures), any_next (same s.graph.now s.a s.b) c.loop-p.p c.loop-p.invariant.1 (sym (compared s.graph.now s.a s.b c.loop-p.p c.same_colliders.ensures c.load_word.ensures c.load_word-in-loop-p.ensures c.contact_at-at.ensures.place c.id_at-id.ensures) ∙ c.if-same_colliders.false))
+    (omega (arith, within c.loop-p-test.true c.load-listed.ensures), any_next (same s.graph.now s.a s.b) c.loop-p.p c.loop-p.invariant.1 (sym (compared s.graph.now s.a s.b c.loop-p.p c.same_colliders.ensures c.load.ensures c.load-in-loop-p.ensures c.contact_at-at.ensures.place c.id_at-id.ensures) ∙ c.if-same_colliders.false))
 
 pub returns : goal.returns
 unfolding pair_stands
 returns c =
     let s = c.args in
-    let e : c.loop-p.p ≡ listed_count s.graph.now = omega (arith, c.loop-p.invariant.0, c.loop-p-test.false, c.number_at-listed.ensures) in
+    let e : c.loop-p.p ≡ listed_count s.graph.now = omega (arith, c.loop-p.invariant.0, c.loop-p-test.false, c.load-listed.ensures) in
     sym (ap (any (same s.graph.now s.a s.b)) (sym e) ∙ c.loop-p.invariant.1)

@@ -1,4 +1,4 @@
--- What the loops of `contact_graph::add::pair_stands` keep, and how far there is still to go.
+-- What the loops of `contact_graph::add::pair_stands` keep.
 use mathlib.Core.Path.{◌≡◌}
 use mathlib.Core.Bool.{Bool, false}
 use mathlib.Core.List.{List}
@@ -15,6 +15,3 @@ same g a b p = same_colliders a b (word_at g (contact_at g (listed_at g p))) (wo
 
 abbrev pub invariant-loop-p : goal.invariant-loop-p
 invariant-loop-p l = (l.p ≤ listed_count l.graph) × (any (same l.graph l.a l.b) l.p ≡ false)
-
-abbrev pub decreases-loop-p : goal.decreases-loop-p
-decreases-loop-p l = listed_count l.graph - l.p

@@ -10,4 +10,4 @@ returns c =
     let n = c in
     let k = n in
     let s = k.args in
-    (λ i. eqb (k.new.ensures i) (n.new-2.ensures i)) ∙ key_colliders s.a s.b s.c s.d (search rules) (search rules) (search rules) (search rules)
+    c.eq.ensures ∙ (λ i. eqb (k.new.ensures i) (n.new-2.ensures i)) ∙ key_colliders s.a s.b s.c s.d (search rules) (search rules) (search rules) (search rules)

@@ -2,4 +2,4 @@
 use Rattle.contact_graph.proofs.remove.close_gap.Goals as goal
 
 pub returns : goal.returns
-returns c = rw (c.store_word-2.ensures, c.store_word.ensures)
+returns c = rw (c.store-2.ensures, c.store.ensures)

@@ -17,28 +17,28 @@ close_gap-requires c =
     let f = c.gap_of-gap.ensures in
     (omega (arith, f.list), omega (arith, f.index))
 
-pub store_word-requires : goal.store_word-requires
-store_word-requires c =
+pub store-requires : goal.store-requires
+store-requires c =
     -- once the gap is closed the length is as it was
     let z = removal_room c.args.id.0 c.requires.0 c.requires.1 in
     let same = ap length c.close_gap.ensures ∙ length_put _ _ _ ∙ length_put _ _ _ in
-    omega (arith, same, c.number_at-capacity.ensures, c.load_word-freed.ensures)
+    omega (arith, same, c.load-capacity.ensures, c.load-freed.ensures)
 
 pub overflow_sub-listed : goal.overflow_sub-listed
 overflow_sub-listed c =
     let z = removal_room c.args.id.0 c.requires.0 c.requires.1 in
-    omega (arith, c.load_word-listed.ensures)
+    omega (arith, c.load-listed.ensures)
 
 pub overflow_add-freed : goal.overflow_add-freed
 overflow_add-freed c =
     let z = removal_room c.args.id.0 c.requires.0 c.requires.1 in
     let m = c.requires.0.right.most in
-    omega (arith, c.load_word-freed.ensures)
+    omega (arith, c.load-freed.ensures)
 
 pub returns : goal.returns
 returns c =
-    let next : 4 + c.number_at-capacity.result + c.load_word-freed.result ≡ 4 + capacity_of c.args.graph.now + free_count c.args.graph.now
-    = omega (arith, c.number_at-capacity.ensures, c.load_word-freed.ensures) in
+    let next : 4 + c.load-capacity.result + c.load-freed.result ≡ 4 + capacity_of c.args.graph.now + free_count c.args.graph.now
+    = omega (arith, c.load-capacity.ensures, c.load-freed.ensures) in
     gap_closed c.gap_of-gap.ensures c.close_gap.ensures next
-    c.store_word.ensures (ap (λ (n : ℕ). n - 1) c.load_word-listed.ensures)
-    (ap (λ (n : ℕ). n + 1) c.load_word-freed.ensures) c.store_counts.ensures
+    c.store.ensures (ap (λ (n : ℕ). n - 1) c.load-listed.ensures)
+    (ap (λ (n : ℕ). n + 1) c.load-freed.ensures) c.store_counts.ensures

@@ -4,4 +4,4 @@ use Rattle.rows.specs.Laws.{put_next}
 use Rattle.contact_graph.proofs.remove.store_counts.Goals as goal
 
 pub returns : goal.returns
-returns c = rw (c.store_word-2.ensures, c.store_word.ensures) (put_next _ 2 _ _ 1 refl)
+returns c = rw (c.store-2.ensures, c.store.ensures) (put_next _ 2 _ _ 1 refl)

@@ -7,4 +7,4 @@ use Rattle.contact_range.proofs.places.free_at.Goals as goal
 pub returns : goal.returns
 returns c =
     let a = c.args in
-    c.id_at.ensures ∙ ap (λ (n : ℕ). word_at a.graph.now (4 + n + a.k)) c.number_at-capacity.ensures
+    c.id_at.ensures ∙ ap (λ (n : ℕ). word_at a.graph.now (4 + n + a.k)) c.load-capacity.ensures

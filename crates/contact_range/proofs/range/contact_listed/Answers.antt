@@ -9,21 +9,15 @@ use Rattle.contact_range.specs.RangeStepLaws.{below_at, index_read, place_read}
 use Rattle.contact_range.proofs.range.contact_listed.Goals as goal
 
 pub contact_at-at-requires : goal.contact_at-at-requires
-contact_at-at-requires c =
-    let s = c in
-    (s.requires.0.counted.right, omega (arith, below_at s.args.p s.requires.0 s.requires.1))
+contact_at-at-requires c = (c.requires.0.counted.right, omega (arith, below_at c.args.p c.requires.0 c.requires.1))
 
-pub returns-then-number_at-p : goal.returns-then-number_at-p
-returns-then-number_at-p c =
-    let r = c in
-    let s = r in
-    let i = index_read s.args.graph.now r.contact_at-at.ensures s.args.p r.id_at-id.ensures c.number_at.ensures in
-    rw (ne_eqb _ _ (λ e. c.if-number_at-p.true (i ∙ e)))
+pub returns-then-load-p : goal.returns-then-load-p
+returns-then-load-p c =
+    let g = c.args.graph.now in
+    let i = index_read g c.contact_at-at.ensures c.args.p c.id_at-id.ensures c.load.ensures in
+    rw (eq-eqb (index_at g (listed_at g c.args.p)) c.args.p (omega (arith, i, c.if-load-p.true))) (c.contact_fits.ensures ∙ ap (contact_fits g) (place_read g c.contact_at-at.ensures c.args.p c.id_at-id.ensures))
 
-pub returns : goal.returns
-returns c =
-    let r = c in
-    let s = r in
-    let g = s.args.graph.now in
-    let i = index_read g r.contact_at-at.ensures s.args.p r.id_at-id.ensures c.number_at.ensures in
-    rw (eq-eqb (index_at g (listed_at g s.args.p)) s.args.p (omega (arith, i, c.if-number_at-p.false))) (c.contact_fits.ensures ∙ ap (contact_fits g) (place_read g r.contact_at-at.ensures s.args.p r.id_at-id.ensures))
+pub returns-else-load-p : goal.returns-else-load-p
+returns-else-load-p c =
+    let i = index_read c.args.graph.now c.contact_at-at.ensures c.args.p c.id_at-id.ensures c.load.ensures in
+    rw (ne_eqb _ _ (λ e. c.if-load-p.false (i ∙ e))) (ne_eqb _ _ c.if-load-p.false)

@@ -1,37 +1,29 @@
 -- `contact_range::range::contacts_listed` meets its contract: the contacts passed name their places and are in range. Assumes nothing.
-use mathlib.Core.Path.{sym, ◌∙◌}
-use mathlib.Core.Bool.{true}
-use Prim.Native.Nat.{◌-◌}
-use Rattle.rule_laws.specs.NumberLaws.{every_next, every_fails, every_both}
-use Rattle.contact_range.specs.Recorded.{listed_count}
-use Rattle.contact_range.specs.Range.{names_back, contacts_fit}
-use Rattle.contact_range.specs.RangeStepLaws.{refused_by, passed_by, every_none, every_done}
+use mathlib.Core.Path.{◌∙◌}
+use Prim.Native.Nat.{ℕ}
+use Rattle.std.proofs.lemmas.Iterator.{serves_from_Range}
+use Rattle.rule_laws.specs.AllLaws.{every_from_all}
+use mathlib.Core.Bool.{Bool, ◌&&◌}
+use mathlib.Core.List.{List}
+use lib.Dec.{eqb}
+use Rattle.contact_range.specs.Recorded.{listed_at, listed_count, contact_at}
+use Rattle.rule_laws.specs.NumberLaws.{every_both}
+use Rattle.contact_range.specs.Conditions.{index_at}
+use Rattle.contact_range.specs.Range.{contact_fits, names_back, contacts_fit}
 use borrow.Author.Rules.{rules}
 use Rattle.contact_range.proofs.range.contacts_listed.Goals as goal
-use Rattle.contact_range.proofs.range.contacts_listed.Invariants.{back, fit, test}
 
-pub loop-p-init : goal.loop-p-init
-loop-p-init c = (search rules, every_none (test c.args.graph.now))
+abbrev back : List ℕ → ℕ → Bool
+back graph p = eqb (index_at graph (listed_at graph p)) p
 
-pub contact_listed-requires : goal.contact_listed-requires
-contact_listed-requires c = (c.requires, search rules)
+abbrev fit : List ℕ → ℕ → Bool
+fit graph p = contact_fits graph (contact_at graph (listed_at graph p))
 
-pub returns-then-not-contact_listed : goal.returns-then-not-contact_listed
-unfolding names_back contacts_fit
-returns-then-not-contact_listed c =
-    let w = c in
-    let g = w.args.graph.now in
-    sym (sym (every_both (back g) (fit g) (listed_count g)) ∙ every_fails (test g) (listed_count g) w.loop-p.p (search rules) (refused_by c.contact_listed.ensures c.if-not-contact_listed.true))
-
-pub loop-p-preserved : goal.loop-p-preserved
-loop-p-preserved c =
-    let w = c in
-    let g = w.args.graph.now in
-    (search rules, every_next (test g) w.loop-p.p w.loop-p.invariant.1 (passed_by c.contact_listed.ensures c.if-not-contact_listed.false))
+pub all-requires-clause-callable : goal.all-requires-clause-callable
+all-requires-clause-callable c = serves_from_Range (λ x q r. search rules) (λ x low below. search rules)
 
 pub returns : goal.returns
 unfolding names_back contacts_fit
 returns c =
-    let w = c in
-    let g = w.args.graph.now in
-    sym (sym (every_both (back g) (fit g) (listed_count g)) ∙ every_done (test g) (listed_count g) w.loop-p.invariant.1 (search rules) (search rules))
+    every_from_all (λ p. back c.args.graph.now p && fit c.args.graph.now p) (listed_count c.args.graph.now) _ _ c.all.result c.all.ensures.ran (search rules) (λ x b q k. search rules)
+    ∙ every_both (back c.args.graph.now) (fit c.args.graph.now) (listed_count c.args.graph.now)

@@ -1,7 +1,6 @@
 -- `contact_range::range::free_once` meets its contract: the ids passed are marked, and differ. Assumes nothing.
 use mathlib.Core.Path.{sym, ap, ◌∙◌}
-use mathlib.Core.Bool.{true, not, true≢false}
-use Prim.Native.Nat.{◌-◌}
+use mathlib.Core.Bool.{not, true≢false}
 use native.Mathlib.Omega.{arith}
 use Rattle.rule_laws.specs.NumberLaws.{every_next, every_fails}
 use Rattle.contact_range.specs.Recorded.{free_at, free_count}

@@ -1,8 +1,8 @@
--- What the loops of `contact_range::range::free_once` keep, and how far there is still to go.
+-- What the loops of `contact_range::range::free_once` keep.
 use mathlib.Core.Path.{◌≡◌}
 use mathlib.Core.List.{List}
 use mathlib.Core.Bool.{Bool, true, not}
-use Prim.Native.Nat.{ℕ, ◌≤◌, ◌-◌}
+use Prim.Native.Nat.{ℕ, ◌≤◌}
 use lib.Dec.{eqb}
 use lib.ListN.{length}
 use Rattle.rules.specs.Numbers.{every}
@@ -15,6 +15,3 @@ test graph k = every (λ j. not (eqb (free_at graph j) (free_at graph k))) k
 
 abbrev pub invariant-loop-k : goal.invariant-loop-k
 invariant-loop-k l = (l.k ≤ l.freed) × (length l.marks ≡ 4) × (every (test l.graph) l.k ≡ true) × Marked (free_at l.graph) l.k l.marks
-
-abbrev pub decreases-loop-k : goal.decreases-loop-k
-decreases-loop-k l = l.freed - l.k

@@ -1,45 +1,21 @@
--- `contact_range::range::manifolds_fit` meets its contract: the manifolds passed have at most 4 points. Assumes nothing.
-use mathlib.Core.Bool.{true}
-use Prim.Native.Nat.{◌-◌}
-use borrow.Author.Tests.{le-leb, lt-leb}
-use Rattle.rule_laws.specs.NumberLaws.{every_next, every_fails}
-use Rattle.contact_range.specs.RangeStepLaws.{within, above, every_none, every_done}
-use Rattle.contact_range.specs.Range.{manifolds_fit}
+-- `contact_range::range::manifolds_fit` meets its contract: each counted manifold has few points. Assumes nothing.
+use mathlib.Core.Path.{refl}
+use Prim.Native.Nat.{◌+◌, ◌*◌}
+use lib.Dec.{leb}
+use borrow.Author.Tests.{le-leb}
 use borrow.Author.Rules.{rules}
+use Rattle.words.specs.Words.{word_at}
+use Rattle.rules.specs.Limits.{pair_manifolds, stored_points}
+use Rattle.layout.specs.Contact.{contact_manifolds}
+use Rattle.layout.specs.Manifold.{manifold_size}
+use Rattle.rule_laws.specs.AllLaws.{every_from_all}
+use Rattle.contact_range.specs.Range.{manifolds_fit}
 use Rattle.contact_range.proofs.range.manifolds_fit.Goals as goal
-use Rattle.contact_range.proofs.range.manifolds_fit.Invariants.{points, test}
 
-pub returns-then-count-gt-MANIFOLDS : goal.returns-then-count-gt-MANIFOLDS
+pub returns-then-count-le-MANIFOLDS : goal.returns-then-count-le-MANIFOLDS
 unfolding manifolds_fit
-returns-then-count-gt-MANIFOLDS c = rw (above c.number_at-count.ensures c.if-count-gt-MANIFOLDS.true)
-
-pub loop-k-init : goal.loop-k-init
-loop-k-init c =
+returns-then-count-le-MANIFOLDS c =
     let a = c.args in
-    (search rules, every_none (test a.graph.now a.at))
-
-pub returns-then-points-gt-STORED_POINTS : goal.returns-then-points-gt-STORED_POINTS
-unfolding manifolds_fit
-returns-then-points-gt-STORED_POINTS c =
-    let w = c in
-    let n = w.number_at-count in
-    let a = w.args in
-    rw (
-      within n.ensures w.if-count-gt-MANIFOLDS.false,
-      ← n.ensures,
-      every_fails (test a.graph.now a.at) n.result w.loop-k.k (search rules) (lt-leb (points a.graph.now a.at w.loop-k.k) 4 (search rules)),
-    )
-
-pub loop-k-preserved : goal.loop-k-preserved
-loop-k-preserved c =
-    let w = c in
-    let a = w.args in
-    (search rules, every_next (test a.graph.now a.at) w.loop-k.k w.loop-k.invariant.1 (le-leb (points a.graph.now a.at w.loop-k.k) 4 (search rules)))
-
-pub returns : goal.returns
-unfolding manifolds_fit
-returns c =
-    let w = c in
-    let n = w.number_at-count in
-    let a = w.args in
-    rw (within n.ensures w.if-count-gt-MANIFOLDS.false, ← n.ensures, every_done (test a.graph.now a.at) n.result w.loop-k.invariant.1 (search rules) (search rules))
+    let all = every_from_all (λ k. leb (word_at a.graph.now (a.at + contact_manifolds + 1 + k * manifold_size)) stored_points) c.load-count.result _ _ c.all.result c.all.ensures.ran refl (λ x b q k. search rules) in
+    let few = le-leb c.load-count.result pair_manifolds c.if-count-le-MANIFOLDS.true in
+    rw (← c.load-count.ensures, few, ← all)

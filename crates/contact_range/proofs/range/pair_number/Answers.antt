@@ -11,4 +11,4 @@ returns c =
     let g = c in
     let k = g in
     number_of_ids _ _ (search rules) (search rules) (g.get-ids.ensures ∙ ap ids_of k.new-key.ensures)
-    ∙ (λ i. pair_number (k.load_word.ensures i) (k.load_word-2.ensures i))
+    ∙ (λ i. pair_number (k.load.ensures i) (k.load-2.ensures i))

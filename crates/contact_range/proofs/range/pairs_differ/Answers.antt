@@ -1,7 +1,6 @@
 -- `contact_range::range::pairs_differ` meets its contract: the pairs passed are marked, and differ. Assumes nothing.
 use mathlib.Core.Path.{sym, ap, ◌∙◌}
-use mathlib.Core.Bool.{true, not}
-use Prim.Native.Nat.{◌-◌}
+use mathlib.Core.Bool.{not}
 use native.Mathlib.Omega.{arith}
 use Rattle.rule_laws.specs.NumberLaws.{every_next, every_fails}
 use Rattle.contact_range.specs.Recorded.{listed_count}

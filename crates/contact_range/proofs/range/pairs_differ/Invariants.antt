@@ -1,8 +1,8 @@
--- What the loops of `contact_range::range::pairs_differ` keep, and how far there is still to go.
+-- What the loops of `contact_range::range::pairs_differ` keep.
 use mathlib.Core.Path.{◌≡◌}
 use mathlib.Core.List.{List}
 use mathlib.Core.Bool.{Bool, true, not}
-use Prim.Native.Nat.{ℕ, ◌≤◌, ◌-◌}
+use Prim.Native.Nat.{ℕ, ◌≤◌}
 use lib.ListN.{length}
 use Rattle.rules.specs.Numbers.{every}
 use Rattle.contact_range.specs.Range.{same_pair}
@@ -14,6 +14,3 @@ test graph p = every (λ q. not (same_pair graph q p)) p
 
 abbrev pub invariant-loop-p : goal.invariant-loop-p
 invariant-loop-p l = (l.p ≤ l.listed) × (length l.marks ≡ 1024) × (every (test l.graph) l.p ≡ true) × Marked (place_number l.graph) l.p l.marks
-
-abbrev pub decreases-loop-p : goal.decreases-loop-p
-decreases-loop-p l = l.listed - l.p

@@ -1,14 +1,12 @@
--- What the loops of `contact_types::pruning::side_points` keep, and how far there is still to go.
-use mathlib.Core.List.{List}
-use Prim.Native.Nat.{ℕ, ◌≤◌, ◌-◌}
-use lib.Ieee.{Float}
+-- What the loop of `contact_types::pruning::side_points` keeps.
+use Rattle.std.proofs.Common.{◌≡◌, ℕ, List}
+use Rattle.std.specs.Prelude.{Float}
 use Rattle.math.specs.Constants.{zero_f}
 use Rattle.math.specs.Vec.{◌-v◌, dot}
 use Rattle.math.specs.declared.vec.Vec3.{Vec3}
 use Rattle.rules.specs.Numbers.{greater, less, leader}
 use Rattle.rules.specs.Pruning.{rest}
-use Rattle.contact_types.specs.Pruned.{projected_by}
-use Rattle.contact_types.specs.PruneStepLaws.{Stands}
+use Rattle.contact_types.specs.Pruned.{projected_by, leading_of}
 use Rattle.contact_types.specs.declared.pruning.Projected.{Projected}
 use Rattle.contact_types.proofs.pruning.side_points.Given as goal
 
@@ -18,7 +16,4 @@ across ps perp from k = dot perp ((projected_by ps k).point -v from)
 
 abbrev pub invariant-loop-k : goal.invariant-loop-k
 invariant-loop-k l =
-    (l.k ≤ l.count) × Stands l.below (leader less (across l.ps l.perp l.from.point) (rest l.i l.j) zero_f l.k) × Stands l.above (leader greater (across l.ps l.perp l.from.point) (rest l.i l.j) zero_f l.k)
-
-abbrev pub decreases-loop-k : goal.decreases-loop-k
-decreases-loop-k l = l.count - l.k
+    (leading_of l.below ≡ leader less (across l.ps l.perp l.from) (rest l.i l.j) zero_f l.k) × (leading_of l.above ≡ leader greater (across l.ps l.perp l.from) (rest l.i l.j) zero_f l.k)

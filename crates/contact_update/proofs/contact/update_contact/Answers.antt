@@ -18,6 +18,6 @@ returns c =
     record {
       graph = o.graph;
       bit = c.set_if.ensures ∙ ap (λ (b : Bool). cond b (marked x.bits.now x.id.0) x.bits.now) o.bit;
-      distance = c.store_float.ensures ∙ ap (λ (d : Float). put x.distances.now x.id.0 (float_word d ∷ [])) o.distance;
+      distance = c.store.ensures ∙ ap (λ (d : Float). put x.distances.now x.id.0 (float_word d ∷ [])) o.distance;
       recycled = o.recycled;
     }

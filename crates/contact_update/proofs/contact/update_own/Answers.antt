@@ -32,14 +32,14 @@ update_record-requires c =
     let x = c.args in
     let from = x.id.0 * proposal_size in
     let at = c.contact_at-at.result in
-    let p = lent_part x.proposals.now from (from + proposal_size - from) proposal_size (omega arith) in
+    let p = lent_part x.input.now.proposals.now from (from + proposal_size - from) proposal_size (omega arith) in
     let w = lent_part x.graph.now at (at + 523 - at) 523 (omega arith) ∙ ap (λ (a : ℕ). part x.graph.now a 523) c.contact_at-at.ensures.place in
-    parts_ready (plain_settings x.s) c.requires _ _ p w
+    parts_ready (plain_settings x.input.now.settings) c.requires _ _ p w
 
 pub returns : goal.returns
 returns c =
     let x = c.args in
     let from = x.id.0 * proposal_size in
     let at = c.contact_at-at.result in
-    let p = lent_part x.proposals.now from (from + proposal_size - from) proposal_size (omega arith) in
+    let p = lent_part x.input.now.proposals.now from (from + proposal_size - from) proposal_size (omega arith) in
     own_updated _ c.requires _ _ _ _ p refl c.update_record.ensures c.contact_at-at.ensures.place (let e : at + 523 - at ≡ 523 = omega arith in e)

@@ -11,7 +11,7 @@ unfolding after_words
 returns c =
     record {
       under = λ id. record {
-        words = c.store_word-2.ensures ∙ ap (λ (x : List ℕ). put x 19 (0 ∷ [])) c.store_word.ensures;
+        words = c.store-2.ensures ∙ ap (λ (x : List ℕ). put x 19 (0 ∷ [])) c.store.ensures;
         bit = refl;
         recycled = refl;
         distance = refl;

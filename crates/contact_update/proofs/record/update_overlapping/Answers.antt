@@ -33,7 +33,7 @@ returns-in_default c =
     }
 
 pub update_recycled-requires : goal.update_recycled-requires
-update_recycled-requires c = let s = c in (s.requires.0, s.requires.1)
+update_recycled-requires c = (c.requires.record_words, c.requires.counted)
 
 pub returns : goal.returns
 unfolding pair_at
@@ -43,6 +43,6 @@ returns c =
     let w = k.args.words.now in
     record {
       under = λ id. updates_by
-          (overlapped_recycled _ _ _ _ _ _ _ (pair_at w 0 id) _ (sym k.load_cache-cache.ensures ∙ ap cache_of c.in-Cached.is) (recycles_read _ _ _ (pair_at w 0 id) _ _ t.recycle.ensures (ap (λ (f : PairFlags). f.touching) k.load_flags-flags.ensures) k.load_cache-cache.ensures t.if-not-recycle.false))
+          (overlapped_recycled _ _ _ _ _ _ _ (pair_at w 0 id) _ (sym k.load_cache-cache.ensures ∙ ap cache_of c.in-Some.is) (recycles_read _ _ _ (pair_at w 0 id) _ _ t.recycle.ensures (ap (λ (f : PairFlags). f.touching) k.load_flags-flags.ensures) k.load_cache-cache.ensures t.if-not-recycle.false))
           (c.update_recycled.ensures.under id);
     }

@@ -1,7 +1,7 @@
--- What the loop of `contact_update::recycled::recycle_manifolds` keeps, and how far there is still to go.
+-- What the loop of `contact_update::recycled::recycle_manifolds` keeps.
 use mathlib.Core.Path.{◌≡◌}
 use mathlib.Core.List.{map}
-use Prim.Native.Nat.{◌≤◌, ◌+◌, ◌*◌, ◌-◌}
+use Prim.Native.Nat.{◌≤◌, ◌+◌, ◌*◌}
 use lib.ListN.{length, take}
 use Rattle.manifold_records.specs.Recorded.{manifolds_at}
 use Rattle.contact_update.specs.After.{manifolds_put}
@@ -12,6 +12,3 @@ use Rattle.contact_update.proofs.recycled.recycle_manifolds.Given as goal
 abbrev pub invariant-loop-k : goal.invariant-loop-k
 invariant-loop-k l =
     (l.k ≤ l.n) × (length l.words ≡ length l.initial.words) × Left l.initial.words l.words (37 + l.k * 81) × (l.words ≡ manifolds_put (take l.k (map (manifold_after l.motion) (manifolds_at l.initial.words 36))) 37 l.initial.words)
-
-abbrev pub decreases-loop-k : goal.decreases-loop-k
-decreases-loop-k l = l.n - l.k

@@ -7,4 +7,4 @@ recycle_manifolds-requires c = c.requires
 
 pub returns : goal.returns
 returns c =
-    recycled_stored _ _ _ _ c.args.a.is_static c.args.b.is_static c.motion_of-motion.ensures c.recycle_manifolds.ensures c.mark_word.ensures c.mark_word-2.ensures c.store_words.ensures c.store_word.ensures
+    recycled_stored _ _ _ _ c.args.a.is_static c.args.b.is_static c.motion_of-motion.ensures c.recycle_manifolds.ensures c.mark_word.ensures c.mark_word-2.ensures c.store_words.ensures c.store.ensures

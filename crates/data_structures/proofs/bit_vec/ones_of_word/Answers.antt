@@ -1,10 +1,6 @@
 -- `data_structures::bit_vec::ones_of_word` meets its contract. The invariant: what is left to write, written, gives the whole. Assumes nothing.
-use mathlib.Core.Path.{◌≡◌, refl, sym, ap, ◌∙◌}
-use Prim.Native.Nat.{suc, ◌+◌, ◌-◌, ◌<◌}
-use native.Mathlib.Omega.{arith}
-use borrow.Author.Rules.{rules}
-use lib.Bits.{bit_and, and_le_r}
-use lib.ListN.{length}
+use Rattle.std.proofs.Common.{◌≡◌, refl, sym, ap, ◌∙◌, suc, ◌+◌, ◌-◌, ◌<◌, arith, rules, bit_and, length}
+use lib.Bits.{and_le_r}
 use Rattle.rows.specs.Rows.{put}
 use Rattle.data_structures.specs.BitVec.{word_bits}
 use Rattle.data_structures.specs.WordLaws.{word_next, word_none, word_length, trailing_below}

@@ -1,7 +1,5 @@
 -- What the loop of `data_structures::bit_vec::ones_of_word` keeps, and how far there is still to go.
-use mathlib.Core.Path.{◌≡◌}
-use Prim.Native.Nat.{◌+◌, ◌-◌, ◌^◌, ◌<◌}
-use lib.ListN.{length}
+use Rattle.std.proofs.Common.{◌≡◌, ◌+◌, ◌^◌, ◌<◌, length}
 use Rattle.rows.specs.Rows.{put}
 use Rattle.data_structures.specs.BitVec.{word_bits}
 use Rattle.data_structures.proofs.bit_vec.ones_of_word.Given as goal

@@ -1,8 +1,5 @@
 -- `data_structures::bit_vec::or` meets its contract. Assumes nothing.
-use mathlib.Core.Path.{refl}
-use Prim.Native.Nat.{◌-◌}
-use borrow.Author.Rules.{rules}
-use lib.Seq.{take_all}
+use Rattle.std.proofs.Common.{refl, rules, take_all}
 use Rattle.data_structures.specs.LoopLaws.{joined_none, join_step}
 use Rattle.data_structures.proofs.bit_vec.or.Goals as goal
 

@@ -1,7 +1,5 @@
--- What the loop of `manifold_matching::matching::match_all` keeps, and how far there is still to go.
-use mathlib.Core.Path.{◌≡◌}
-use Prim.Native.Nat.{◌≤◌, ◌-◌}
-use lib.ListN.{length}
+-- What the loop of `manifold_matching::matching::match_all` keeps.
+use Rattle.std.proofs.Common.{◌≡◌, length}
 use Rattle.rows.specs.Rows.{put}
 use Rattle.rules.specs.Matching.{feature_rule}
 use Rattle.manifold_records.specs.Recorded.{manifold_at}
@@ -11,7 +9,4 @@ use Rattle.manifold_matching.proofs.matching.match_all.Given as goal
 
 abbrev pub invariant-loop-j : goal.invariant-loop-j
 invariant-loop-j l =
-    (l.j ≤ l.m) × (length l.words ≡ length l.initial.words) × (l.words ≡ put l.initial.words l.at (manifold_words (matched_by (feature_rule l.by_place) l.threshold l.olds l.j (manifold_at l.initial.words l.at))))
-
-abbrev pub decreases-loop-j : goal.decreases-loop-j
-decreases-loop-j l = l.m - l.j
+    (length l.words ≡ length l.initial.words) × (l.words ≡ put l.initial.words l.at (manifold_words (matched_by (feature_rule l.rule.by_place) l.rule.threshold l.olds l.j (manifold_at l.initial.words l.at))))

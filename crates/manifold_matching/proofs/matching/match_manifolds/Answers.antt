@@ -1,33 +1,16 @@
 -- `manifold_matching::matching::match_manifolds` meets its contract. The first i of the manifolds that stood there are matched. Assumes nothing.
-use mathlib.Core.Path.{refl}
-use Prim.Native.Nat.{◌-◌}
-use native.Mathlib.Omega.{arith}
-use borrow.Author.Rules.{rules}
-use Rattle.rules.specs.Matching.{match_all}
+use Rattle.std.proofs.Common.{refl, arith, rules}
 use Rattle.manifold_matching.specs.MatchingLaws.{manifolds_begin, one_written, manifolds_next, manifolds_end}
 use Rattle.manifold_matching.proofs.matching.match_manifolds.Goals as goal
 
 pub loop-i-init : goal.loop-i-init
-loop-i-init c =
-    let s = c in
-    (search rules, refl, manifolds_begin _ _ _ s.requires.0)
+loop-i-init c = (refl, manifolds_begin _ _ _ c.requires.0)
 
 pub match_all-requires : goal.match_all-requires
-match_all-requires c =
-    let i = c in
-    let w = i in
-    let s = w in
-    (one_written _ _ _ _ _ _ w.loop-i.i s.requires.0 i.loop-i-test.true s.requires.1 w.loop-i.invariant.2, omega arith, s.requires.2)
+match_all-requires c = (one_written _ _ _ _ _ _ c.loop-i.i c.requires.0 c.loop-i-test.true c.requires.1 c.loop-i.invariant.1, omega arith, c.requires.2)
 
 pub loop-i-preserved : goal.loop-i-preserved
-loop-i-preserved c =
-    let r = c in
-    let i = r in
-    let w = i in
-    let s = w in
-    (search rules, search rules, manifolds_next _ _ _ _ _ _ w.loop-i.i s.requires.0 i.loop-i-test.true s.requires.1 w.loop-i.invariant.2 r.match_all.ensures)
+loop-i-preserved c = (search rules, manifolds_next _ _ _ _ _ _ c.loop-i.i c.requires.0 c.loop-i-test.true c.requires.1 c.loop-i.invariant.1 c.match_all.ensures)
 
 pub returns : goal.returns
-returns c =
-    let w = c in
-    manifolds_end _ _ _ _ _ _ w.loop-i.i c.loop-i-test.false w.loop-i.invariant.2
+returns c = manifolds_end _ _ _ _ _ _ c.loop-i.i c.loop-i-test.false c.loop-i.invariant.1

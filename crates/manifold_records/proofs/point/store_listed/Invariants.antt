@@ -1,4 +1,4 @@
--- What the loop of `manifold_records::point::store_listed` keeps, and how far there is still to go.
+-- What the loop of `manifold_records::point::store_listed` keeps.
 use mathlib.Core.Path.{◌≡◌}
 use Prim.Native.Nat.{◌≤◌, ◌-◌}
 use lib.ListN.{length, take}
@@ -9,6 +9,3 @@ use Rattle.manifold_records.proofs.point.store_listed.Given as goal
 
 abbrev pub invariant-loop-k : goal.invariant-loop-k
 invariant-loop-k l = (l.k ≤ l.n) × (length l.g ≡ length l.initial.g) × (l.g ≡ put l.initial.g l.at (each (λ p. point_words (point_of p)) (take l.k l.points)))
-
-abbrev pub decreases-loop-k : goal.decreases-loop-k
-decreases-loop-k l = l.n - l.k

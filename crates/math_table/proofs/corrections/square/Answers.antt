@@ -6,7 +6,7 @@ short : (n : ℕ) → n % 2048 * (n % 2048) ≤ 2047 * 2047
 short n = let h : n % 2048 ≤ 2047 = omega arith in mul-le-mul h h
 
 pub overflow_mul-result : goal.overflow_mul-result
-overflow_mul-result c = let s = short c.args.n in omega arith
+overflow_mul-result c = let s = short c.from-k.result in omega arith
 
 pub overflow_mul-result-then-field-eq0 : goal.overflow_mul-result-then-field-eq0
-overflow_mul-result-then-field-eq0 c = let s = short c.args.n in omega arith
+overflow_mul-result-then-field-eq0 c = let s = short c.from-k.result in omega arith

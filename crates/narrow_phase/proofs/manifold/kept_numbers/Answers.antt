@@ -1,11 +1,8 @@
 -- `narrow_phase::manifold::kept_numbers` meets its contract. Assumes nothing.
-use mathlib.Core.Path.{refl}
-use native.Mathlib.Omega.{arith}
+use Rattle.std.proofs.Common.{◌∙◌, arith, rules}
+use Rattle.contact_types.specs.PruneEndLaws.{kept_front}
 use Rattle.contact_types.specs.PruneLaws.{kept_numbers, kept_most}
 use Rattle.narrow_phase.proofs.manifold.kept_numbers.Goals as goal
 
-pub returns-then-count-le-STORED_POINTS : goal.returns-then-count-le-STORED_POINTS
-returns-then-count-le-STORED_POINTS c = record { few = λ h. refl; many = λ h. absurd (omega (arith, c.if-count-le-STORED_POINTS.true)); most = c.if-count-le-STORED_POINTS.true }
-
 pub returns : goal.returns
-returns c = record { few = λ h. absurd (omega (arith, c.if-count-le-STORED_POINTS.false)); many = λ h. kept_numbers _ _ _ c.prune_points.ensures; most = kept_most _ _ _ c.prune_points.ensures }
+returns c = record { few = λ h. absurd (omega (arith, c.if-count-le-STORED_POINTS.false)); many = λ h. kept_numbers _ _ _ c.prune_points.ensures ∙ kept_front _ _ _ (search rules); most = kept_most _ _ _ c.prune_points.ensures }

@@ -1,25 +1,19 @@
 -- `prune_listing::writer::write_number` meets its contract. Assumes nothing.
-use mathlib.Core.Path.{◌∙◌}
-use native.Mathlib.Omega.{arith}
-use borrow.Author.Rules.{rules}
-use lib.ListN.{length-set}
-use Rattle.prune_listing.specs.LinesLaws.{line_room, line_written}
+use Rattle.std.specs.Prelude.{◌≤◌}
+use Rattle.std.proofs.Common.{rules, arith}
+use Rattle.text.specs.SpelledLaws.{length_decimal}
+use Rattle.prune_listing.specs.LinesLaws.{rest_written, line_written}
 use Rattle.prune_listing.proofs.writer.write_number.Goals as goal
 
-pub bounds-out-at-2 : goal.bounds-out-at-2
-bounds-out-at-2 c = simp length-set (omega arith)
-
-pub write_decimal-end-requires : goal.write_decimal-end-requires
-write_decimal-end-requires c = (search rules, simp length-set (omega arith))
+pub write_byte-requires : goal.write_byte-requires
+write_byte-requires c = omega (arith, c.write_decimal-end.ensures.count, c.write_bytes-digits.ensures.count, length_decimal c.args.n)
 
 pub overflow_add-result : goal.overflow_add-result
-overflow_add-result c = let r = line_room c.args.out.now c.args.at c.args.letter c.args.n c.requires.1 c.write_decimal-end.ensures in search rules
-
-pub shape_of-out : goal.shape_of-out
-shape_of-out c = length-set c.write_decimal-end.new.out c.write_decimal-end.result 10 ∙ (line_room c.args.out.now c.args.at c.args.letter c.args.n c.requires.1 c.write_decimal-end.ensures).0
+overflow_add-result c =
+    let short : c.write_byte.result ≤ 13 = omega (arith, c.write_byte.ensures.count, c.write_decimal-end.ensures.count, c.write_bytes-digits.ensures.count, length_decimal c.args.n) in
+    search rules
 
 pub returns : goal.returns
-returns c = line_written _ _ _ _ c.write_decimal-end.ensures
-
-pub bounds-out-end : goal.bounds-out-end
-bounds-out-end c = (line_room c.args.out.now c.args.at c.args.letter c.args.n c.requires.1 c.write_decimal-end.ensures).1
+returns c =
+    rest_written c.args.out.now c.args.at _ (omega (arith, c.requires.1))
+    (line_written c.args.letter c.args.n c.requires.0 c.write_bytes-digits.ensures c.write_decimal-end.ensures c.write_byte.ensures)

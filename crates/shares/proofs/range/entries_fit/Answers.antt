@@ -1,6 +1,6 @@
 -- `shares::range::entries_fit` meets its contract: the entries passed are active and marked, and differ. Assumes nothing.
 use mathlib.Core.Path.{◌≡◌, sym, ap, ◌∙◌}
-use mathlib.Core.Bool.{true, not, and-false}
+use mathlib.Core.Bool.{not, and-false}
 use Prim.Native.Nat.{◌-◌}
 use native.Mathlib.Omega.{arith}
 use Rattle.rules.specs.Numbers.{every}

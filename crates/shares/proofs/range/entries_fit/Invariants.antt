@@ -1,4 +1,4 @@
--- What the loops of `shares::range::entries_fit` keep, and how far there is still to go.
+-- What the loops of `shares::range::entries_fit` keep.
 use mathlib.Core.Path.{◌≡◌}
 use mathlib.Core.Bool.{Bool, true, not}
 use mathlib.Core.List.{List}
@@ -20,6 +20,3 @@ fresh shares k = every (λ j. not (eqb (entry_at shares j) (entry_at shares k)))
 abbrev pub invariant-loop-k : goal.invariant-loop-k
 invariant-loop-k l =
     (l.k ≤ l.total) × (length l.marks ≡ 4) × (every (standing l.shares l.graph) l.k ≡ true) × (every (fresh l.shares) l.k ≡ true) × Marked (entry_at l.shares) l.k l.marks
-
-abbrev pub decreases-loop-k : goal.decreases-loop-k
-decreases-loop-k l = l.total - l.k

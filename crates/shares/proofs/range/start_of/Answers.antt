@@ -18,7 +18,7 @@ pub loop-w-preserved : goal.loop-w-preserved
 unfolding start_of
 loop-w-preserved c =
     let w = c.loop-w in
-    (search rules, omega (arith, w.invariant.1), (λ i. w.invariant.2 i + c.load_word.ensures i) ∙ ap (start_of _) (sym (add-one w.w)))
+    (search rules, omega (arith, w.invariant.1), (λ i. w.invariant.2 i + c.load.ensures i) ∙ ap (start_of _) (sym (add-one w.w)))
 
 pub returns : goal.returns
 returns c =

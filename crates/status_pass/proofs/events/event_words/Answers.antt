@@ -1,8 +1,8 @@
 -- `status_pass::events::event_words` meets its contract. Assumes nothing.
-use Rattle.status_pass.specs.ListedLaws.{named_words_lem}
+use borrow.Author.Rules.{rules}
+use Rattle.status_pass.specs.ListedLaws.{event_stored}
 use Rattle.status_pass.proofs.events.event_words.Goals as goal
 
 pub returns : goal.returns
 returns c =
-    named_words_lem c.args.words.now c.args.kind c.args.id.0 c.load_word.ensures c.load_word-2.ensures c.optional_mark.ensures c.optional_number.ensures c.optional_mark-2.ensures
-    c.optional_number-2.ensures
+    event_stored c.args.words.now c.args.id.0 c.args.kind (search rules) c.load-3.ensures c.load-4.ensures (rw c.load.ensures at c.optional_words.ensures) (rw c.load-2.ensures at c.optional_words-2.ensures)

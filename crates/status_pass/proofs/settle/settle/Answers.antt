@@ -16,11 +16,11 @@ returns-in-Stops c = rw c.in-Stops.is c.settle_stopped.ensures
 
 pub returns-in-Generates : goal.returns-in-Generates
 unfolding settled_words
-returns-in-Generates c = rw c.in-Generates.is c.store_word.ensures
+returns-in-Generates c = rw c.in-Generates.is c.store.ensures
 
 pub returns-in-Recounts : goal.returns-in-Recounts
 unfolding settled_words
-returns-in-Recounts c = rw c.in-Recounts.is c.store_word-in-Recounts.ensures
+returns-in-Recounts c = rw c.in-Recounts.is c.store-in-Recounts.ensures
 
 pub returns-in-Persists : goal.returns-in-Persists
 unfolding settled_words

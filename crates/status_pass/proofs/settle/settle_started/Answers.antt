@@ -7,4 +7,4 @@ use Rattle.status_pass.proofs.settle.settle_started.Goals as goal
 
 pub returns : goal.returns
 returns c =
-    c.store_word-3.ensures ∙ ap (λ (x : List ℕ). put x 14 (0 ∷ [])) (c.store_word-2.ensures ∙ ap (λ (x : List ℕ). put x 11 (0 ∷ [])) c.store_word.ensures)
+    c.store-3.ensures ∙ ap (λ (x : List ℕ). put x 14 (0 ∷ [])) (c.store-2.ensures ∙ ap (λ (x : List ℕ). put x 11 (0 ∷ [])) c.store.ensures)

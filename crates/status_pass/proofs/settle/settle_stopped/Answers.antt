@@ -6,4 +6,4 @@ use Rattle.rows.specs.Rows.{put}
 use Rattle.status_pass.proofs.settle.settle_stopped.Goals as goal
 
 pub returns : goal.returns
-returns c = c.store_word-2.ensures ∙ ap (λ (x : List ℕ). put x 12 (0 ∷ [])) c.store_word.ensures
+returns c = c.store-2.ensures ∙ ap (λ (x : List ℕ). put x 12 (0 ∷ [])) c.store.ensures

@@ -1,6 +1,9 @@
--- `status_pass::visit::leave` meets its contract: case by case. Assumes nothing.
-use mathlib.Core.Path.{◌∙◌}
-use Rattle.status_pass.specs.Pass.{visited_graph}
+-- `status_pass::visit::leave` meets its contract. Assumes nothing.
+use Rattle.std.proofs.Common.{◌≡◌, ◌≢◌, ◌∙◌, refl, ℕ, List}
+use Rattle.status_pass.specs.Pass.{visited_graph, settled_graph}
+use Rattle.status_pass.specs.Verdicts.{plain_verdict}
+use Rattle.status_pass.specs.declared.verdict.Verdict.{Verdict}
+use Rattle.status_pass.specs.declared.verdict.Verdict.TheVariants.{Vanishes, Starts, Stops, Generates, Recounts, Persists}
 use Rattle.status_pass.proofs.visit.leave.Goals as goal
 
 pub remove_standing-requires : goal.remove_standing-requires
@@ -9,38 +12,18 @@ remove_standing-requires c = c.requires
 pub settle_own-requires : goal.settle_own-requires
 settle_own-requires c = c.requires
 
-pub settle_own-requires-in-Stops : goal.settle_own-requires-in-Stops
-settle_own-requires-in-Stops c = c.requires
-
-pub settle_own-requires-in-Generates : goal.settle_own-requires-in-Generates
-settle_own-requires-in-Generates c = c.requires
-
-pub settle_own-requires-in-Recounts : goal.settle_own-requires-in-Recounts
-settle_own-requires-in-Recounts c = c.requires
-
-pub settle_own-requires-in-Persists : goal.settle_own-requires-in-Persists
-settle_own-requires-in-Persists c = c.requires
-
 pub returns-in-Vanishes : goal.returns-in-Vanishes
 unfolding visited_graph
 returns-in-Vanishes c = rw c.in-Vanishes.is c.remove_standing.ensures
 
-pub returns-in-Starts : goal.returns-in-Starts
+settled : (v : Verdict) (id : ℕ) (g : List ℕ) → v ≢ Vanishes → settled_graph (plain_verdict v) id g ≡ visited_graph (plain_verdict v) id g
 unfolding visited_graph
-returns-in-Starts c = c.settle_own.ensures ∙ rw c.in-Starts.is
+settled Vanishes id g n = absurd (n refl)
+settled Starts id g n = refl
+settled Stops id g n = refl
+settled Generates id g n = refl
+settled Recounts id g n = refl
+settled Persists id g n = refl
 
-pub returns-in-Stops : goal.returns-in-Stops
-unfolding visited_graph
-returns-in-Stops c = c.settle_own-in-Stops.ensures ∙ rw c.in-Stops.is
-
-pub returns-in-Generates : goal.returns-in-Generates
-unfolding visited_graph
-returns-in-Generates c = c.settle_own-in-Generates.ensures ∙ rw c.in-Generates.is
-
-pub returns-in-Recounts : goal.returns-in-Recounts
-unfolding visited_graph
-returns-in-Recounts c = c.settle_own-in-Recounts.ensures ∙ rw c.in-Recounts.is
-
-pub returns-in-Persists : goal.returns-in-Persists
-unfolding visited_graph
-returns-in-Persists c = c.settle_own-in-Persists.ensures ∙ rw c.in-Persists.is
+pub returns-in_default : goal.returns-in_default
+returns-in_default c = c.settle_own.ensures ∙ settled c.args.v c.args.id.0 c.args.graph.now c.in_default.not-Vanishes

@@ -1,51 +1,28 @@
 -- `step::numbers::hooks_fit` meets its contract: the pairs passed fit. Assumes nothing.
-use mathlib.Core.Path.{◌≡◌, sym, ap, subst, ◌∙◌}
-use mathlib.Core.List.{List}
-use Prim.Native.Nat.{ℕ, ◌<◌}
+use mathlib.Core.Path.{subst}
+use Prim.Native.Nat.{ℕ, ◌<◌, ◌*◌}
 use native.Mathlib.Omega.{arith}
-use Rattle.rule_laws.specs.NumberLaws.{every_next, every_fails}
-use Rattle.contact_range.specs.RangeStepLaws.{refused_by, passed_by, every_none, every_done}
-use Rattle.contact_range.specs.Recorded.{listed_count}
+use Rattle.std.proofs.lemmas.Iterator.{serves_from_Range}
+use Rattle.layout.specs.Proposal.{proposal_size}
+use Rattle.contact_range.specs.Recorded.{listed_count, listed_at}
 use Rattle.proposals.specs.Range.{hook_fits}
+use Rattle.rule_laws.specs.AllLaws.{every_from_all}
 use Rattle.step.specs.Step.{hooks_fit}
 use Rattle.step.specs.TestLaws.{pair_places}
 use borrow.Author.Rules.{rules}
 use Rattle.step.proofs.numbers.hooks_fit.Goals as goal
-use Rattle.step.proofs.numbers.hooks_fit.Invariants.{fits}
 
-pub number_at-listed-requires : goal.number_at-listed-requires
-number_at-listed-requires c = let right = c.requires.0.right in omega (arith, right.size)
+pub load-listed-requires : goal.load-listed-requires
+load-listed-requires c = let right = c.requires.0.right in omega (arith, right.size)
 
-pub loop-p-init : goal.loop-p-init
-loop-p-init c = (search rules, every_none (fits c.args.proposals.now c.args.graph.now))
-
--- the loop is at a place of the list
-within : (graph : List ℕ) {listed p : ℕ} → listed ≡ listed_count graph → p < listed → p < listed_count graph
-within graph {p = p} e below = subst (λ (n : ℕ). p < n) e below
-
-pub proposal_at-requires : goal.proposal_at-requires
-proposal_at-requires c = (c.requires.0, within c.args.graph.now c.number_at-listed.ensures c.loop-p-test.true)
-
-pub hook_fits-requires : goal.hook_fits-requires
-hook_fits-requires c =
-    let q = pair_places c.requires.0 c.loop-p.p (within c.args.graph.now c.number_at-listed.ensures c.loop-p-test.true) c.requires.1 in
-    omega (arith, q.room, c.proposal_at.ensures)
-
-pub returns-then-not-hook_fits : goal.returns-then-not-hook_fits
-unfolding hooks_fit
-returns-then-not-hook_fits c =
-    let s = c.args in
-    let f = ap (hook_fits s.proposals.now) (sym c.proposal_at.ensures) ∙ refused_by c.hook_fits.ensures c.if-not-hook_fits.true in
-    sym (every_fails (fits s.proposals.now s.graph.now) _ c.loop-p.p (within s.graph.now c.number_at-listed.ensures c.loop-p-test.true) f)
-
-pub loop-p-preserved : goal.loop-p-preserved
-loop-p-preserved c =
-    let s = c.args in
-    let f = ap (hook_fits s.proposals.now) (sym c.proposal_at.ensures) ∙ passed_by c.hook_fits.ensures c.if-not-hook_fits.false in
-    (search rules, every_next (fits s.proposals.now s.graph.now) c.loop-p.p c.loop-p.invariant.1 f)
+pub all-requires-clause-callable : goal.all-requires-clause-callable
+all-requires-clause-callable c = serves_from_Range (λ x q r. search rules) (λ x low below.
+    let listed = subst (λ (n : ℕ). x < n) c.load-listed.ensures below in
+    let place = pair_places c.requires.0 x listed c.requires.1 in
+    let room = place.room in
+    search rules)
 
 pub returns : goal.returns
 unfolding hooks_fit
 returns c =
-    let s = c.args in
-    sym (every_done (fits s.proposals.now s.graph.now) (listed_count s.graph.now) c.loop-p.invariant.1 (search rules) (search rules))
+    every_from_all (λ p. hook_fits c.args.proposals.now (listed_at c.args.graph.now p * proposal_size)) (listed_count c.args.graph.now) _ _ c.all.result c.all.ensures.ran (search rules) (λ x b q k. search rules)

@@ -32,8 +32,8 @@ returns-then-invalid c =
     (refused_shares _ _ _ (passed_by c.lengths_fit.ensures c.if-not-lengths_fit.false) (passed_by c.numbers_fit.ensures c.if-not-numbers_fit.false) (passed_by c.proposals_fit-too_large.ensures c.if-too_large.false)
     (refused_by c.shares_fit-invalid.ensures c.if-invalid.true))
 
-pub step_accepted-report-requires : goal.step_accepted-report-requires
-step_accepted-report-requires c =
+pub step_accepted-requires : goal.step_accepted-requires
+step_accepted-requires c =
     accepted_all _ _ _ (passed_by c.lengths_fit.ensures c.if-not-lengths_fit.false) (passed_by c.numbers_fit.ensures c.if-not-numbers_fit.false) (passed_by c.proposals_fit-too_large.ensures c.if-too_large.false)
     (passed_by c.shares_fit-invalid.ensures c.if-invalid.false)
 
@@ -41,4 +41,4 @@ pub returns : goal.returns
 returns c =
     step_kept _ _ _
     (accepted_all _ _ _ (passed_by c.lengths_fit.ensures c.if-not-lengths_fit.false) (passed_by c.numbers_fit.ensures c.if-not-numbers_fit.false) (passed_by c.proposals_fit-too_large.ensures c.if-too_large.false)
-    (passed_by c.shares_fit-invalid.ensures c.if-invalid.false)) c.step_accepted-report.ensures
+    (passed_by c.shares_fit-invalid.ensures c.if-invalid.false)) c.step_accepted.ensures

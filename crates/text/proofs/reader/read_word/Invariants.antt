@@ -1,10 +1,6 @@
--- What the loop of `text::reader::read_word` keeps, and how far there is still to go.
-use Prim.Native.Nat.{◌-◌}
+-- What the loop of `text::reader::read_word` keeps.
 use Rattle.text.proofs.WordLaws.{WordTo}
 use Rattle.text.proofs.reader.read_word.Given as goal
 
 abbrev pub invariant-loop-k : goal.invariant-loop-k
 invariant-loop-k l = WordTo l.text l.at l.k l.value
-
-abbrev pub decreases-loop-k : goal.decreases-loop-k
-decreases-loop-k l = 8 - l.k

@@ -11,16 +11,16 @@ use Rattle.trace_player.proofs.play.lent_fit.Goals as goal
 pub returns-then-not-lengths_fit : goal.returns-then-not-lengths_fit
 returns-then-not-lengths_fit c = sym (rows_unfit _ _ _ _ (refused_by c.lengths_fit.ensures c.if-not-lengths_fit.true))
 
-pub number_at-requires : goal.number_at-requires
-number_at-requires c =
+pub load-requires : goal.load-requires
+load-requires c =
     let r = right_length_lem (lengths_right _ _ _ (passed_by c.lengths_fit.ensures c.if-not-lengths_fit.false)) in
     omega (arith, r.size)
 
 pub overflow_mul-result : goal.overflow_mul-result
 overflow_mul-result c =
     let r = right_length_lem (lengths_right _ _ _ (passed_by c.lengths_fit.ensures c.if-not-lengths_fit.false)) in
-    omega (arith, r.most, c.number_at.ensures)
+    omega (arith, r.most, c.load.ensures)
 
 pub returns : goal.returns
 unfolding lent_fits
-returns c = rw (passed_by c.lengths_fit.ensures c.if-not-lengths_fit.false, c.number_at.ensures)
+returns c = rw (passed_by c.lengths_fit.ensures c.if-not-lengths_fit.false, c.load.ensures)

@@ -1,50 +1,29 @@
--- `trace_printing::lines::write_change` meets its contract. Assumes nothing.
-use mathlib.Core.Path.{sym, ◌∙◌}
-use native.Mathlib.Omega.{arith}
-use borrow.Author.Rules.{rules}
-use Rattle.trace_rules.specs.Printed.{number, absent, signed_cell}
+-- `trace_printing::lines::write_change` meets its contract: kind by kind. Assumes nothing.
+use Rattle.std.proofs.Common.{rules, ◌≡◌, sym, ◌∙◌, subst, ℕ, List, map}
+use Rattle.step.specs.Read.{change_at}
+use Rattle.text.specs.Text.{Written}
+use Rattle.trace_rules.specs.Printed.{change_cells}
 use Rattle.trace_printing.specs.Cells.{cell_of}
-use Rattle.trace_printing.specs.LineLaws.{length_first, change_written, start_at, stop_at, count_at}
+use Rattle.trace_printing.specs.LineLaws.{start_at, stop_at, count_at, change_printed}
 use Rattle.trace_printing.proofs.lines.write_change.Goals as goal
-
-pub write_last_three-requires : goal.write_last_three-requires
-write_last_three-requires c =
-    let w = c.write_first-next.ensures in
-    let h = length_first 83 (number 0) (number c.load_word-contact.result) in
-    omega (arith, w.count, h, c.requires.1)
-
-pub returns-then-kind-eq0 : goal.returns-then-kind-eq0
-returns-then-kind-eq0 c =
-    let l = c in
-    let a = c.args in
-    change_written _ 0 l.load_word-contact.result absent absent absent
-    (rw (start_at a.changes.now a.at (sym l.load_word-kind.ensures ∙ search rules), l.load_word-contact.ensures))
-    c.write_first-next.ensures c.write_last_three.ensures
-
-pub write_last_three-requires-then-kind-eq1 : goal.write_last_three-requires-then-kind-eq1
-write_last_three-requires-then-kind-eq1 c =
-    let w = c.write_first-next-then-kind-eq1.ensures in
-    let h = length_first 83 (number 1) (number c.load_word-contact.result) in
-    omega (arith, w.count, h, c.requires.1)
-
-pub returns-then-kind-eq1 : goal.returns-then-kind-eq1
-returns-then-kind-eq1 c =
-    let l = c in
-    let a = c.args in
-    change_written _ 1 l.load_word-contact.result (number l.load_word-body1.result) (number l.load_word-body2.result) absent
-    (rw (stop_at a.changes.now a.at (sym l.load_word-kind.ensures ∙ search rules), l.load_word-contact.ensures, l.load_word-body1.ensures, l.load_word-body2.ensures))
-    c.write_first-next-then-kind-eq1.ensures c.write_last_three-then-kind-eq1.ensures
-
-pub write_last_three-requires-2 : goal.write_last_three-requires-2
-write_last_three-requires-2 c =
-    let w = c.write_first-next-2.ensures in
-    let h = length_first 83 (number 2) (number c.load_word-contact.result) in
-    omega (arith, w.count, h, c.requires.1)
+use Rattle.trace_printing.proofs.lines.write_change.Goals.{in-0, in-1, in_default}
 
 pub returns : goal.returns
 returns c =
-    let l = c in
     let a = c.args in
-    change_written _ 2 l.load_word-contact.result (number l.load_word-body1.result) (number l.load_word-body2.result) (cell_of c.signed_cell.result)
-    (rw (count_at a.changes.now a.at (λ e. search (rules, e)) (λ e. search (rules, e)), l.load_word-contact.ensures, l.load_word-body1.ensures, l.load_word-body2.ensures, c.signed_cell.ensures, l.load_word-count.ensures))
-    c.write_first-next-2.ensures c.write_last_three-2.ensures
+    let cells : map cell_of c.match-kind.cells ≡ change_cells (change_at a.changes.now a.at)
+    = elim c.match-kind.branch [
+      | in-0 w ↦ rw (w.cells-is, start_at a.changes.now a.at (sym c.load-kind.ensures ∙ w.in-0.is), c.load-contact.ensures)
+      | in-1 w ↦ rw (w.cells-is, stop_at a.changes.now a.at (sym c.load-kind.ensures ∙ w.in-1.is), c.load-contact.ensures, c.load-body1.ensures, c.load-body2.ensures)
+      | in_default w ↦
+          rw (
+            w.cells-is,
+            count_at a.changes.now a.at (λ e. search (rules, e)) (λ e. search (rules, e)),
+            c.load-contact.ensures,
+            c.load-body1.ensures,
+            c.load-body2.ensures,
+            w.signed_cell.ensures,
+            c.load-count.ensures,
+          )
+    ] in
+    subst (λ (ws : List ℕ). Written a.out.now a.place ws c.write_line.new.out c.write_line.result) (change_printed (change_at a.changes.now a.at) cells) c.write_line.ensures

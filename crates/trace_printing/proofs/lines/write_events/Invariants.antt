@@ -1,6 +1,6 @@
--- What the loop of `trace_printing::lines::write_events` keeps, and how far there is still to go.
+-- What the loop of `trace_printing::lines::write_events` keeps.
 use mathlib.Core.Path.{◌≡◌}
-use Prim.Native.Nat.{◌*◌, ◌-◌, ◌≤◌}
+use Prim.Native.Nat.{◌*◌, ◌≤◌}
 use lib.ListN.{length}
 use Rattle.layout.specs.Event.{event_size}
 use Rattle.step.specs.Read.{event_at}
@@ -11,6 +11,3 @@ use Rattle.trace_printing.proofs.lines.write_events.Given as goal
 
 abbrev pub invariant-loop-k : goal.invariant-loop-k
 invariant-loop-k l = (l.k ≤ l.count) × (length l.out ≡ length l.initial.out) × LinesWritten event_text (λ n. event_at l.events (n * event_size)) event_room length_event l.initial.out l.at l.k l.out l.place
-
-abbrev pub decreases-loop-k : goal.decreases-loop-k
-decreases-loop-k l = l.count - l.k

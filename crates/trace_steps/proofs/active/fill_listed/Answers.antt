@@ -29,4 +29,4 @@ returns c =
     let w = f in
     let a = w in
     let s = a.args in
-    proposal_listed (step_record (lines_between s.text.now s.start s.stop)).proposal s.graph.now s.proposals.now s.p a.id_at-id.ensures a.contact_at-at.ensures.place w.load_word-a.ensures w.load_word-b.ensures f.fill_proposal.ensures
+    proposal_listed (step_record (lines_between s.text.now s.start s.stop)).proposal s.graph.now s.proposals.now s.p a.id_at-id.ensures a.contact_at-at.ensures.place w.load-a.ensures w.load-b.ensures f.fill_proposal.ensures

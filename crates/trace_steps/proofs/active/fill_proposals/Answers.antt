@@ -11,8 +11,8 @@ use Rattle.trace_steps.specs.ActiveLaws.{list_places}
 use Rattle.trace_steps.specs.ProposalsLaws.{proposals_begun, proposals_next, proposals_done}
 use Rattle.trace_steps.proofs.active.fill_proposals.Goals as goal
 
-pub number_at-listed-requires : goal.number_at-listed-requires
-number_at-listed-requires c = let l = list_places c.requires.0 in omega arith
+pub load-listed-requires : goal.load-listed-requires
+load-listed-requires c = let l = list_places c.requires.0 in omega arith
 
 pub loop-p-init : goal.loop-p-init
 loop-p-init c = (search rules, c.clear.auto.words ∙ c.requires.1, proposals_begun _ _ c.requires.1 c.clear.ensures)
@@ -22,14 +22,14 @@ within : (graph : List ℕ) {listed p : ℕ} → listed ≡ listed_count graph �
 within graph {p = p} e below = subst (λ (n : ℕ). p < n) e below
 
 pub fill_listed-requires : goal.fill_listed-requires
-fill_listed-requires c = (c.requires.0, within c.args.graph.now c.number_at-listed.ensures c.loop-p-test.true, c.loop-p.invariant.1)
+fill_listed-requires c = (c.requires.0, within c.args.graph.now c.load-listed.ensures c.loop-p-test.true, c.loop-p.invariant.1)
 
 pub loop-p-preserved : goal.loop-p-preserved
 loop-p-preserved c =
     let s = c.args in (
       search rules,
       c.fill_listed.auto.proposals ∙ c.loop-p.invariant.1,
-      proposals_next (step_record (lines_between s.text.now s.start s.stop)).proposal s.graph.now _ c.loop-p.p (within s.graph.now c.number_at-listed.ensures c.loop-p-test.true) c.loop-p.invariant.2 c.fill_listed.ensures,
+      proposals_next (step_record (lines_between s.text.now s.start s.stop)).proposal s.graph.now _ c.loop-p.p (within s.graph.now c.load-listed.ensures c.loop-p-test.true) c.loop-p.invariant.2 c.fill_listed.ensures,
     )
 
 pub shape_of-proposals : goal.shape_of-proposals
@@ -38,4 +38,4 @@ shape_of-proposals c = c.loop-p.invariant.1 ∙ sym c.requires.1
 pub returns : goal.returns
 returns c =
     let s = c.args in
-    proposals_done (step_record (lines_between s.text.now s.start s.stop)).proposal s.graph.now c.loop-p.p (omega (arith, c.number_at-listed.ensures, c.loop-p-test.false)) c.loop-p.invariant.2
+    proposals_done (step_record (lines_between s.text.now s.start s.stop)).proposal s.graph.now c.loop-p.p (omega (arith, c.load-listed.ensures, c.loop-p-test.false)) c.loop-p.invariant.2

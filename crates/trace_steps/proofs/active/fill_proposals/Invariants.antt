@@ -1,6 +1,6 @@
--- What the loop of `trace_steps::active::fill_proposals` keeps, and how far there is still to go.
+-- What the loop of `trace_steps::active::fill_proposals` keeps.
 use mathlib.Core.Path.{◌≡◌}
-use Prim.Native.Nat.{◌*◌, ◌-◌, ◌≤◌}
+use Prim.Native.Nat.{◌*◌, ◌≤◌}
 use lib.ListN.{length}
 use Rattle.layout.specs.Proposal.{proposal_size}
 use Rattle.contact_range.specs.Recorded.{capacity_of}
@@ -12,6 +12,3 @@ use Rattle.trace_steps.proofs.active.fill_proposals.Given as goal
 abbrev pub invariant-loop-p : goal.invariant-loop-p
 invariant-loop-p l =
     (l.p ≤ l.listed) × (length l.proposals ≡ capacity_of l.graph * proposal_size) × Filled (step_record (lines_between l.text l.start l.stop)).proposal l.graph l.p l.proposals
-
-abbrev pub decreases-loop-p : goal.decreases-loop-p
-decreases-loop-p l = l.listed - l.p

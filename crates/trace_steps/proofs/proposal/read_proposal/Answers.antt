@@ -1,7 +1,7 @@
 -- `trace_steps::proposal::read_proposal` meets its contract: what is left to read makes the whole. Assumes nothing.
 use mathlib.Core.Path.{refl, sym, subst}
 use mathlib.Core.List.{List}
-use Prim.Native.Nat.{ℕ, ◌-◌}
+use Prim.Native.Nat.{ℕ}
 use native.Mathlib.Omega.{arith}
 use Rattle.trace_steps.specs.LoopLaws.{ProposalRead, proposal_begun, proposal_next, proposal_done, line_size}
 use Rattle.trace_steps.specs.PlaceLaws.{lines_stop, lines_unreadable}
@@ -22,7 +22,7 @@ returns-in_default c =
 pub loop-at-smaller : goal.loop-at-smaller
 loop-at-smaller c =
     let k = c in
-    let line = rw k.in-Line.is at k.read_line.ensures in
+    let line = rw k.in-Some.is at k.read_line.ensures in
     omega (arith, line.past, line.inside)
 
 pub loop-at-preserved : goal.loop-at-preserved
@@ -32,7 +32,7 @@ loop-at-preserved c =
     let i = r in
     let w = i in
     let s = w.args in
-    let line = rw k.in-Line.is at r.read_line.ensures in
+    let line = rw k.in-Some.is at r.read_line.ensures in
     (line_size line w.loop-at.invariant.0, proposal_next s.text.now s.start s.stop s.a s.b w.loop-at.invariant.1 i.loop-at-test.true w.loop-at.invariant.0 line c.take_line-counts.ensures)
 
 pub returns : goal.returns

@@ -44,13 +44,13 @@ take_line-requires c =
 
 pub loop-at-smaller : goal.loop-at-smaller
 loop-at-smaller c =
-    let line = rw c.in-Line.is at c.read_line.ensures in
+    let line = rw c.in-Some.is at c.read_line.ensures in
     omega (arith, line.past, line.inside)
 
 pub loop-at-preserved : goal.loop-at-preserved
 loop-at-preserved c =
     let s = c.args in
-    let line = rw c.in-Line.is at c.read_line.ensures in
+    let line = rw c.in-Some.is at c.read_line.ensures in
     (line_size line c.loop-at.invariant.0, rows_next s.text.now s.start s.stop c.loop-at.invariant.1 c.loop-at-test.true c.loop-at.invariant.0 line c.take_line.ensures)
 
 pub shape_of-settings : goal.shape_of-settings

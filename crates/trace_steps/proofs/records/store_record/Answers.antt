@@ -8,7 +8,7 @@ use Rattle.trace_steps.specs.CodeLaws.{record_none, record_stored_lem, record_ro
 use Rattle.trace_steps.proofs.records.store_record.Goals as goal
 
 pub returns-then-n-count : goal.returns-then-n-count
-returns-then-n-count c = record_none _ _ _ _ c.number_at-n.ensures c.if-n-count.true
+returns-then-n-count c = record_none _ _ _ _ c.load-n.ensures c.if-n-count.true
 
 pub overflow_mul-at : goal.overflow_mul-at
 overflow_mul-at c = omega (arith, record_room c.args.row.now _ _ _ c.requires.0 c.if-n-count.false)
@@ -29,4 +29,4 @@ pub shape_of-row : goal.shape_of-row
 shape_of-row c = ap length c.store_part.ensures ∙ simp (length_put, length-set)
 
 pub returns : goal.returns
-returns c = record_stored_lem _ _ _ _ c.number_at-n.ensures c.if-n-count.false c.store_part.ensures
+returns c = record_stored_lem _ _ _ _ c.load-n.ensures c.if-n-count.false c.store_part.ensures

@@ -24,4 +24,4 @@ returns c =
     let l = c in
     let z = l in
     let s = z in
-    shares_filled s.args.graph.now s.requires.1 z.clear.ensures l.load_word.ensures c.list_active.ensures
+    shares_filled s.args.graph.now s.requires.1 z.clear.ensures l.load.ensures c.list_active.ensures

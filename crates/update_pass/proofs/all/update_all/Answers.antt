@@ -14,21 +14,21 @@ use Rattle.shares.specs.Shares.{workers_of}
 use Rattle.update_pass.specs.AllLaws.{cleared_parts, so_far_none, own_ready, so_far_next, so_far_all, so_far_few, own_places}
 use borrow.Author.Rules.{rules}
 use Rattle.update_pass.proofs.all.update_all.Goals as goal
-use Rattle.update_pass.proofs.all.update_all.Goals.{After-number_at-workers, In-loop-w}
+use Rattle.update_pass.proofs.all.update_all.Goals.{After-load-workers, In-loop-w}
 
-pub number_at-capacity-requires : goal.number_at-capacity-requires
-number_at-capacity-requires c = let right = c.requires.listed.ready.checked.right in omega (arith, right.size)
+pub load-capacity-requires : goal.load-capacity-requires
+load-capacity-requires c = let right = c.requires.listed.ready.checked.right in omega (arith, right.size)
 
 pub store_zeros-requires : goal.store_zeros-requires
-store_zeros-requires c = let d = c.requires.distance_words in omega (arith, c.number_at-capacity.ensures)
+store_zeros-requires c = let d = c.requires.distance_words in omega (arith, c.load-capacity.ensures)
 
-pub number_at-workers-requires : goal.number_at-workers-requires
-number_at-workers-requires c = let d = c.requires.listed.size in omega arith
+pub load-workers-requires : goal.load-workers-requires
+load-workers-requires c = let d = c.requires.listed.size in omega arith
 
 -- all parts together are the bit words, few of them
-parts : (c : After-number_at-workers) → (8 * c.blocks-count.result ≡ length c.args.bits.now) × (c.blocks-count.result ≤ 4)
+parts : (c : After-load-workers) → (8 * c.blocks-count.result ≡ length c.args.bits.now) × (c.blocks-count.result ≤ 4)
 parts c =
-    let n : c.blocks-count.result ≡ blocks_of (capacity_of c.args.graph.now) = c.blocks-count.ensures ∙ ap blocks_of c.number_at-capacity.ensures in
+    let n : c.blocks-count.result ≡ blocks_of (capacity_of c.args.graph.now) = c.blocks-count.ensures ∙ ap blocks_of c.load-capacity.ensures in
     let h = (blocks_hold (capacity_of c.args.graph.now)).1 in
     let m = c.requires.listed.ready.checked.right.most in
     (omega (arith, c.requires.bit_words), omega arith)
@@ -41,13 +41,13 @@ slice_bounds-parts-count c = omega arith
 
 pub loop-w-init : goal.loop-w-init
 loop-w-init c =
-    let b : c.blocks-count.result ≡ blocks_of (capacity_of c.args.graph.now) = c.blocks-count.ensures ∙ ap blocks_of c.number_at-capacity.ensures in
+    let b : c.blocks-count.result ≡ blocks_of (capacity_of c.args.graph.now) = c.blocks-count.ensures ∙ ap blocks_of c.load-capacity.ensures in
     let n = c.requires.distance_words in
     let end : 8 * c.blocks-count.result - 0 ≡ length c.args.bits.now = omega (arith, c.requires.bit_words) in
     let bits = cleared_parts c.args.bits.now (8 * c.blocks-count.result - 0) end c.clear.ensures ∙ ap zeros (end ∙ c.requires.bit_words) in (
       search rules,
       so_far_none _ _ _ _ _ c.requires.listed bits
-          (c.store_zeros.ensures ∙ ap (λ (k : ℕ). put c.args.distances.now 0 (zeros k)) c.number_at-capacity.ensures ∙ put_whole c.args.distances.now (zeros _) (length_zeros _ ∙ sym n)),
+          (c.store_zeros.ensures ∙ ap (λ (k : ℕ). put c.args.distances.now 0 (zeros k)) c.load-capacity.ensures ∙ put_whole c.args.distances.now (zeros _) (length_zeros _ ∙ sym n)),
       search rules,
       search rules,
       search rules,
@@ -56,9 +56,9 @@ loop-w-init c =
 -- the worker's part lies in the bit words
 own : (c : In-loop-w) → let n = c.blocks-count.result in (c.loop-w.w * n + n ≤ length c.loop-w.bits) × (c.loop-w.w * n + n ≤ 256)
 own c =
-    let l = subst (λ (n : ℕ). c.loop-w.w < n) c.number_at-workers.ensures c.loop-w-test.true in
+    let l = subst (λ (n : ℕ). c.loop-w.w < n) c.load-workers.ensures c.loop-w-test.true in
     let o = own_places _ _ _ _ _ c.requires.listed c.loop-w.w l in
-    let n : c.blocks-count.result ≡ blocks_of (capacity_of c.args.graph.now) = c.blocks-count.ensures ∙ ap blocks_of c.number_at-capacity.ensures in
+    let n : c.blocks-count.result ≡ blocks_of (capacity_of c.args.graph.now) = c.blocks-count.ensures ∙ ap blocks_of c.load-capacity.ensures in
     let p = ap (λ (k : ℕ). c.loop-w.w * k) n in
     (omega (arith, o.few, o.room, c.requires.bit_words, c.loop-w.invariant.3), omega (arith, o.few, o.room, c.requires.bit_words, c.loop-w.invariant.3))
 
@@ -76,8 +76,8 @@ slice_bounds-own-count c = omega arith
 
 pub update_share-recycled-requires : goal.update_share-recycled-requires
 update_share-recycled-requires c =
-    let l = subst (λ (n : ℕ). c.loop-w.w < n) c.number_at-workers.ensures c.loop-w-test.true in
-    let n : c.blocks-count.result ≡ blocks_of (capacity_of c.args.graph.now) = c.blocks-count.ensures ∙ ap blocks_of c.number_at-capacity.ensures in
+    let l = subst (λ (n : ℕ). c.loop-w.w < n) c.load-workers.ensures c.loop-w-test.true in
+    let n : c.blocks-count.result ≡ blocks_of (capacity_of c.args.graph.now) = c.blocks-count.ensures ∙ ap blocks_of c.load-capacity.ensures in
     let from = c.loop-w.w * c.blocks-count.result in
     let p : from ≡ c.loop-w.w * blocks_of (capacity_of c.args.graph.now) = ap (λ (k : ℕ). c.loop-w.w * k) n in
     let q : from + c.blocks-count.result - from ≡ blocks_of (capacity_of c.args.graph.now) = omega arith in
@@ -85,8 +85,8 @@ update_share-recycled-requires c =
 
 pub overflow_add-recycled : goal.overflow_add-recycled
 overflow_add-recycled c =
-    let l = subst (λ (n : ℕ). c.loop-w.w < n) c.number_at-workers.ensures c.loop-w-test.true in
-    let n : c.blocks-count.result ≡ blocks_of (capacity_of c.args.graph.now) = c.blocks-count.ensures ∙ ap blocks_of c.number_at-capacity.ensures in
+    let l = subst (λ (n : ℕ). c.loop-w.w < n) c.load-workers.ensures c.loop-w-test.true in
+    let n : c.blocks-count.result ≡ blocks_of (capacity_of c.args.graph.now) = c.blocks-count.ensures ∙ ap blocks_of c.load-capacity.ensures in
     let from = c.loop-w.w * c.blocks-count.result in
     let p : from ≡ c.loop-w.w * blocks_of (capacity_of c.args.graph.now) = ap (λ (k : ℕ). c.loop-w.w * k) n in
     let q : from + c.blocks-count.result - from ≡ blocks_of (capacity_of c.args.graph.now) = omega arith in
@@ -96,8 +96,8 @@ overflow_add-recycled c =
 
 pub loop-w-preserved : goal.loop-w-preserved
 loop-w-preserved c =
-    let l = subst (λ (n : ℕ). c.loop-w.w < n) c.number_at-workers.ensures c.loop-w-test.true in
-    let n : c.blocks-count.result ≡ blocks_of (capacity_of c.args.graph.now) = c.blocks-count.ensures ∙ ap blocks_of c.number_at-capacity.ensures in
+    let l = subst (λ (n : ℕ). c.loop-w.w < n) c.load-workers.ensures c.loop-w-test.true in
+    let n : c.blocks-count.result ≡ blocks_of (capacity_of c.args.graph.now) = c.blocks-count.ensures ∙ ap blocks_of c.load-capacity.ensures in
     let from = c.loop-w.w * c.blocks-count.result in
     let p : from ≡ c.loop-w.w * blocks_of (capacity_of c.args.graph.now) = ap (λ (k : ℕ). c.loop-w.w * k) n in
     let q : from + c.blocks-count.result - from ≡ blocks_of (capacity_of c.args.graph.now) = omega arith in (
@@ -110,5 +110,5 @@ loop-w-preserved c =
 
 pub returns : goal.returns
 returns c =
-    let e : c.loop-w.w ≡ c.number_at-workers.result = search rules in
-    so_far_all _ _ _ _ _ c.requires.listed c.loop-w.w (e ∙ c.number_at-workers.ensures) c.loop-w.invariant.1
+    let e : c.loop-w.w ≡ c.load-workers.result = search rules in
+    so_far_all _ _ _ _ _ c.requires.listed c.loop-w.w (e ∙ c.load-workers.ensures) c.loop-w.invariant.1

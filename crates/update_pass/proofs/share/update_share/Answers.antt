@@ -18,22 +18,22 @@ overflow_add-from c = let p = places _ _ _ _ _ _ c.requires in omega (arith, p.m
 pub overflow_add-worker : goal.overflow_add-worker
 overflow_add-worker c = let p = places _ _ _ _ _ _ c.requires in omega (arith, p.worker)
 
-pub load_word-count-requires : goal.load_word-count-requires
-load_word-count-requires c = let p = places _ _ _ _ _ _ c.requires in omega (arith, p.worker, p.size)
+pub load-count-requires : goal.load-count-requires
+load-count-requires c = let p = places _ _ _ _ _ _ c.requires in omega (arith, p.worker, p.size)
 
 pub loop-k-init : goal.loop-k-init
 unfolding upto graph_after_all bits_after distances_after recycled_of
 loop-k-init c = (search rules, record { graph = refl; bit = refl; distance = refl; recycled = refl }, search rules, search rules, search rules)
 
 pub overflow_add-from-in-loop-k : goal.overflow_add-from-in-loop-k
-overflow_add-from-in-loop-k c = let p = places _ _ _ _ _ _ c.requires in omega (arith, p.most, p.room, c.start_of-from.ensures, c.load_word-count.ensures, c.loop-k-test.true)
+overflow_add-from-in-loop-k c = let p = places _ _ _ _ _ _ c.requires in omega (arith, p.most, p.room, c.start_of-from.ensures, c.load-count.ensures, c.loop-k-test.true)
 
 pub id_at-id-requires : goal.id_at-id-requires
-id_at-id-requires c = let p = places _ _ _ _ _ _ c.requires in omega (arith, p.size, p.room, c.start_of-from.ensures, c.load_word-count.ensures, c.loop-k-test.true)
+id_at-id-requires c = let p = places _ _ _ _ _ _ c.requires in omega (arith, p.size, p.room, c.start_of-from.ensures, c.load-count.ensures, c.loop-k-test.true)
 
 pub update_contact-again-requires : goal.update_contact-again-requires
 update_contact-again-requires c =
-    let l = subst (λ (n : ℕ). c.loop-k.k < n) c.load_word-count.ensures c.loop-k-test.true in
+    let l = subst (λ (n : ℕ). c.loop-k.k < n) c.load-count.ensures c.loop-k-test.true in
     let e = next_entry _ _ _ _ _ c.requires.listed _ c.requires.given c.loop-k.k l (ap (λ (n : ℕ). 9 + n) c.start_of-from.ensures) c.id_at-id.ensures in
     turn_ready _ _ _ _ _ _ c.requires c.loop-k.k c.loop-k.invariant.1 _ l e
 
@@ -41,11 +41,11 @@ pub overflow_add-recycled : goal.overflow_add-recycled
 overflow_add-recycled c =
     let p = places _ _ _ _ _ _ c.requires in
     let f = turn_few _ _ _ _ _ _ c.requires c.loop-k.k c.loop-k.invariant.1 c.update_contact-again.result c.mark_word-recycled.ensures c.loop-k-test.true in
-    omega (arith, p.most, p.room, c.load_word-count.ensures, f)
+    omega (arith, p.most, p.room, c.load-count.ensures, f)
 
 pub loop-k-preserved : goal.loop-k-preserved
 loop-k-preserved c =
-    let l = subst (λ (n : ℕ). c.loop-k.k < n) c.load_word-count.ensures c.loop-k-test.true in
+    let l = subst (λ (n : ℕ). c.loop-k.k < n) c.load-count.ensures c.loop-k-test.true in
     let e = next_entry _ _ _ _ _ c.requires.listed _ c.requires.given c.loop-k.k l (ap (λ (n : ℕ). 9 + n) c.start_of-from.ensures) c.id_at-id.ensures in (
       search rules,
       turn_taken _ _ _ _ _ _ c.requires c.loop-k.k c.loop-k.invariant.1 _ l e c.update_contact-again.ensures c.mark_word-recycled.ensures,
@@ -56,5 +56,5 @@ loop-k-preserved c =
 
 pub returns : goal.returns
 returns c =
-    let e : c.loop-k.k ≡ c.load_word-count.result = search rules in
-    turns_done _ _ _ _ _ _ c.requires c.loop-k.k c.loop-k.invariant.1 (e ∙ c.load_word-count.ensures)
+    let e : c.loop-k.k ≡ c.load-count.result = search rules in
+    turns_done _ _ _ _ _ _ c.requires c.loop-k.k c.loop-k.invariant.1 (e ∙ c.load-count.ensures)

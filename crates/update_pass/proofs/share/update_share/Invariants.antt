@@ -1,4 +1,4 @@
--- What the loop of `update_pass::share::update_share` keeps, and how far there is still to go.
+-- What the loop of `update_pass::share::update_share` keeps.
 use mathlib.Core.Path.{◌≡◌}
 use Prim.Native.Nat.{◌-◌, ◌≤◌}
 use lib.ListN.{length}
@@ -9,8 +9,5 @@ use Rattle.update_pass.proofs.share.update_share.Given as goal
 
 abbrev pub invariant-loop-k : goal.invariant-loop-k
 invariant-loop-k l =
-    (l.k ≤ l.count) × Taken (plain_settings l.s) l.colliders l.bodies l.proposals l.shares (first_of l.shares l.worker l.k) l.initial.graph l.initial.bits l.initial.distances l.graph l.bits l.distances l.recycled
+    (l.k ≤ l.count) × Taken (plain_settings l.input.settings) l.input.colliders.now l.input.bodies.now l.input.proposals.now l.shares (first_of l.shares l.worker l.k) l.initial.graph l.initial.bits l.initial.distances l.graph l.bits l.distances l.recycled
     × (length l.graph ≡ length l.initial.graph) × (length l.bits ≡ length l.initial.bits) × (length l.distances ≡ length l.initial.distances)
-
-abbrev pub decreases-loop-k : goal.decreases-loop-k
-decreases-loop-k l = l.count - l.k

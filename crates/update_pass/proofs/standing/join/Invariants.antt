@@ -1,4 +1,4 @@
--- What the loop of `update_pass::standing::join` keeps, and how far there is still to go.
+-- What the loop of `update_pass::standing::join` keeps.
 use mathlib.Core.Path.{◌≡◌}
 use Prim.Native.Nat.{◌-◌, ◌≤◌}
 use lib.ListN.{length}
@@ -7,6 +7,3 @@ use Rattle.update_pass.proofs.standing.join.Given as goal
 
 abbrev pub invariant-loop-w : goal.invariant-loop-w
 invariant-loop-w l = (l.w ≤ 8) × (l.joined ≡ joined_parts l.count l.bits l.w) × (length l.joined ≡ length l.initial.joined)
-
-abbrev pub decreases-loop-w : goal.decreases-loop-w
-decreases-loop-w l = 8 - l.w

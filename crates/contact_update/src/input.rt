@@ -1,0 +1,11 @@
+// What a contact's update reads, beside its record in the graph.
+use collider::settings::Settings;
+
+// The settings are loaded once for all contacts; the rows are lent whole.
+#[derive(Clone, Copy)]
+pub struct UpdateInput<'a> {
+    pub settings: Settings,
+    pub colliders: &'a [u32],
+    pub bodies: &'a [u32],
+    pub proposals: &'a [u32],
+}

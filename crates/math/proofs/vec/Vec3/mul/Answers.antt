@@ -1,8 +1,0 @@
--- `math::vec::Vec3::mul` meets its contract. Assumes nothing.
-use Rattle.std.proofs.Common.{refl}
-use Rattle.math.specs.Vec.{◌*v◌}
-use Rattle.math.proofs.vec.Vec3.mul.Goals as goal
-
-pub returns : goal.returns
-unfolding ◌*v◌
-returns c = refl

@@ -1,0 +1,11 @@
+// What a step reads.
+
+// The rows that are lent to read. Those that are written, and the graph, stand apart in each call: a `&mut` in a struct hides from the caller what is written through it.
+#[derive(Clone, Copy)]
+pub struct StepInput<'a> {
+    pub settings: &'a [u32],
+    pub colliders: &'a [u32],
+    pub bodies: &'a [u32],
+    pub proposals: &'a [u32],
+    pub shares: &'a [u32],
+}
