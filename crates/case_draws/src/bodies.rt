@@ -2,8 +2,10 @@
 use crate::draws::{Floats, all_but_one_in, draw, float, one_in, past, pick, slot, style};
 use crate::numbers::{
     BODY_CENTER_OF_MASS, BODY_FRICTION, BODY_LINEAR_VELOCITY, BODY_MARGIN, BODY_POSITION,
-    BODY_PRESENT, BODY_ROTATION, BODY_SPECULATIVE_MAXIMUM, BODY_STATIC, BODY_SWEEP_RADIUS,
+    BODY_PRESENT, BODY_ROTATION, BODY_SIZE, BODY_SPECULATIVE_MAXIMUM, BODY_STATIC,
+    BODY_SWEEP_RADIUS,
 };
+use crate::places::fill_nth;
 use crate::settings::{coefficient_word, margin_word};
 
 // The identity, about x by 0.6 and 0.8, a quarter about z, a third about the diagonal, a half about y, not a unit.
@@ -120,4 +122,8 @@ pub fn body_word(case: u32, n: u32, i: u32) -> u32 {
         BODY_SPECULATIVE_MAXIMUM..BODY_SWEEP_RADIUS => pick(&MAXIMA, draw(owner, i)),
         _ => pick(&RADII, draw(owner, BODY_SWEEP_RADIUS)),
     }
+}
+
+pub fn fill_body(bodies: &mut [u32], n: u32, case: u32) {
+    fill_nth(bodies, n, BODY_SIZE, |i| body_word(case, n, i));
 }

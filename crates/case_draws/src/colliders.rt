@@ -4,8 +4,9 @@ use crate::draws::{all_but_one_in, draw, float, one_in, past, pick, slot, style}
 use crate::numbers::{
     BODY_POSITION, COLLIDER_BODY, COLLIDER_BODY_NUMBER, COLLIDER_FRICTION, COLLIDER_LOWER,
     COLLIDER_MARGIN, COLLIDER_MEMBERSHIPS, COLLIDER_POSITION, COLLIDER_PRESENT,
-    COLLIDER_RESTITUTION, COLLIDER_SENSOR, COLLIDER_UPPER,
+    COLLIDER_RESTITUTION, COLLIDER_SENSOR, COLLIDER_SIZE, COLLIDER_UPPER,
 };
+use crate::places::fill_nth;
 use crate::settings::{coefficient_word, margin_word};
 use layout::limits::BODIES;
 
@@ -47,23 +48,10 @@ const FILTERS: [u32; 8] = [
 
 const LAST_BODY: u32 = BODIES - 1;
 
-// From -1 to 1 on most axes.
-fn lower_word(owner: u32, axis: u32) -> u32 {
+// One of the ends, the same for lower and upper; on most axes the usual one.
+fn end_word(owner: u32, axis: u32, ends: &[u32; 8], usual: u32) -> u32 {
     let d = draw(owner, slot(COLLIDER_LOWER, axis)) % 160;
-    if d < 8 {
-        LOWER[d as usize]
-    } else {
-        0xbf80_0000
-    }
-}
-
-fn upper_word(owner: u32, axis: u32) -> u32 {
-    let d = draw(owner, slot(COLLIDER_LOWER, axis)) % 160;
-    if d < 8 {
-        UPPER[d as usize]
-    } else {
-        0x3f80_0000
-    }
+    ends.get(d as usize).copied().unwrap_or(usual)
 }
 
 // At times none.
@@ -101,16 +89,27 @@ fn position_word(case: u32, n: u32, owner: u32, i: u32) -> u32 {
     }
 }
 
+// The box goes from -1 to 1 on most axes.
 fn place_word(case: u32, n: u32, owner: u32, i: u32) -> u32 {
     match i {
-        COLLIDER_LOWER..COLLIDER_UPPER => lower_word(owner, past(i, COLLIDER_LOWER)),
-        COLLIDER_UPPER..COLLIDER_POSITION => upper_word(owner, past(i, COLLIDER_UPPER)),
+        COLLIDER_LOWER..COLLIDER_UPPER => end_word(
+            owner,
+            past(i, COLLIDER_LOWER),
+            &LOWER,
+            0xbf80_0000,
+        ),
+        COLLIDER_UPPER..COLLIDER_POSITION => end_word(
+            owner,
+            past(i, COLLIDER_UPPER),
+            &UPPER,
+            0x3f80_0000,
+        ),
         COLLIDER_POSITION..COLLIDER_MEMBERSHIPS => position_word(case, n, owner, i),
         _ => layers_word(owner, i),
     }
 }
 
-pub fn collider_word(case: u32, n: u32, i: u32) -> u32 {
+fn collider_word(case: u32, n: u32, i: u32) -> u32 {
     let owner = draw(case, slot(10, n));
     match i {
         COLLIDER_PRESENT => all_but_one_in(draw(owner, i), 64),
@@ -134,4 +133,8 @@ pub fn collider_word(case: u32, n: u32, i: u32) -> u32 {
         ),
         _ => one_in(draw(owner, COLLIDER_SENSOR), 12),
     }
+}
+
+pub fn fill_collider(colliders: &mut [u32], n: u32, case: u32) {
+    fill_nth(colliders, n, COLLIDER_SIZE, |i| collider_word(case, n, i));
 }

@@ -2,7 +2,7 @@
 ghost use Rattle.std.specs.Prelude.{◌<◌};
 
 // NaN, the infinities, the zeros, subnormal, huge and tiny numbers.
-const AWKWARD: [u32; 16] = [
+pub const AWKWARD: [u32; 16] = [
     0x7fc0_0000,
     0x7fc0_0000,
     0x7f80_0000,

@@ -6,11 +6,12 @@ use crate::draws::{Floats, draw, float, one_in, past, pick, slot, style};
 use crate::numbers::{
     MANIFOLD_COUNT, MANIFOLD_FRICTION, MANIFOLD_NORMAL, MANIFOLD_POINTS, MANIFOLDS, POINT_ANCHOR1,
     POINT_BASE_PENETRATION, POINT_FEATURE2, POINT_FEATURES, POINT_PENETRATION, POINT_POSITION,
-    POINT_SIZE, PROPOSAL_COUNT, PROPOSAL_HOOK, PROPOSAL_MANIFOLDS, PROPOSED_MANIFOLD_COUNT,
-    PROPOSED_MANIFOLD_NORMAL, PROPOSED_MANIFOLD_POINTS, PROPOSED_MANIFOLD_SIZE,
-    PROPOSED_POINT_ANCHOR1, PROPOSED_POINT_PENETRATION, PROPOSED_POINT_POSITION,
-    PROPOSED_POINT_SIZE, PROPOSED_POINTS, STORED_POINTS,
+    POINT_SIZE, PROPOSAL_COUNT, PROPOSAL_HOOK, PROPOSAL_MANIFOLDS, PROPOSAL_SIZE,
+    PROPOSED_MANIFOLD_COUNT, PROPOSED_MANIFOLD_NORMAL, PROPOSED_MANIFOLD_POINTS,
+    PROPOSED_MANIFOLD_SIZE, PROPOSED_POINT_ANCHOR1, PROPOSED_POINT_PENETRATION,
+    PROPOSED_POINT_POSITION, PROPOSED_POINT_SIZE, PROPOSED_POINTS, STORED_POINTS,
 };
+use crate::places::fill_nth;
 
 // 0, 0.1, 0.05, the floats beside 0.1, -0.1, 0.5.
 const OFFSETS: [u32; 8] = [
@@ -172,7 +173,7 @@ fn manifold_count(owner: u32) -> u32 {
     }
 }
 
-pub fn proposal_word(case: u32, i: u32) -> u32 {
+fn proposal_word(case: u32, i: u32) -> u32 {
     let owner = draw(case, 50);
     let k = past(i, PROPOSAL_MANIFOLDS);
     match i {
@@ -184,6 +185,10 @@ pub fn proposal_word(case: u32, i: u32) -> u32 {
             k % PROPOSED_MANIFOLD_SIZE,
         ),
     }
+}
+
+pub fn fill_proposal(proposals: &mut [u32], id: u32, case: u32) {
+    fill_nth(proposals, id, PROPOSAL_SIZE, |i| proposal_word(case, i));
 }
 
 // ---- stored

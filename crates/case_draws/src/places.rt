@@ -12,6 +12,17 @@ pub fn put(row: &mut [u32], at: u32, word: u32) {
     }
 }
 
+// As many words from a place on, or none where not all are there.
+pub fn part(row: &[u32], from: u32, count: u32) -> &[u32] {
+    let from = from as usize;
+    row.get(from..from + count as usize).unwrap_or(&[])
+}
+
+// Where the i-th word of the n-th record stands in a row of records of a size.
+pub fn nth_place(n: u32, size: u32, i: u32) -> u32 {
+    size.wrapping_mul(n).wrapping_add(i)
+}
+
 pub fn raise(row: &mut [u32], at: u32, by: u32) {
     put(row, at, word(row, at).wrapping_add(by));
 }
@@ -35,5 +46,5 @@ pub fn fill<F: Fn(u32) -> u32>(row: &mut [u32], from: u32, count: u32, words: F)
 pub fn fill_nth<F: Fn(u32) -> u32>(row: &mut [u32], n: u32, size: u32, words: F)
     requires { F.IsAlwaysCallable words }
 {
-    fill(row, size.wrapping_mul(n), size, words);
+    fill(row, nth_place(n, size, 0), size, words);
 }

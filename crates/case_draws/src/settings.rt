@@ -2,10 +2,11 @@
 
 use crate::draws::{all_but_one_in, draw, one_in, pick, slot};
 use crate::numbers::{
-    SETTINGS_CONTACT_TOLERANCE, SETTINGS_FRICTION, SETTINGS_LENGTH_UNIT, SETTINGS_MATCH_CONTACTS,
-    SETTINGS_MATCHING, SETTINGS_MATCHING_VALUE, SETTINGS_RECYCLE_COSINE, SETTINGS_RECYCLE_DISTANCE,
-    SETTINGS_RESTITUTION, SETTINGS_STEP_TIME,
+    SETTINGS_CONTACT_TOLERANCE, SETTINGS_FRICTION, SETTINGS_LENGTH, SETTINGS_LENGTH_UNIT,
+    SETTINGS_MATCH_CONTACTS, SETTINGS_MATCHING, SETTINGS_MATCHING_VALUE, SETTINGS_RECYCLE_COSINE,
+    SETTINGS_RECYCLE_DISTANCE, SETTINGS_RESTITUTION, SETTINGS_STEP_TIME,
 };
+use crate::places::fill;
 
 // 1/64, 1/60, 0.3, 0.1, 0.07, 1, 0, -1/64, infinite, NaN.
 const TIMES: [u32; 16] = [
@@ -136,7 +137,7 @@ pub fn rule(owner: u32, slot: u32) -> u32 {
 }
 
 // Matching is named by number: the Rust's.
-pub fn setting_word(case: u32, i: u32) -> u32 {
+fn setting_word(case: u32, i: u32) -> u32 {
     let owner = draw(case, 30);
     let d = draw(owner, i);
     match i {
@@ -151,6 +152,10 @@ pub fn setting_word(case: u32, i: u32) -> u32 {
         SETTINGS_MATCHING_VALUE => 0,
         _ => rule(owner, i),
     }
+}
+
+pub fn fill_settings(settings: &mut [u32], case: u32) {
+    fill(settings, 0, SETTINGS_LENGTH, |i| setting_word(case, i));
 }
 
 // Mark, coefficient, rule: a rule behind a mark of 0 is any word.

@@ -1,9 +1,9 @@
 -- Refusal 2 of settings, colliders and bodies, condition by condition. Definitions only.
 -- Of each of the 256 and 128 records the presence mark is tested, and the rest where that is 1. Nothing behind a mark of 0 is asked.
-use Rattle.std.specs.Prelude.{ℕ, ◌+◌, ◌*◌, Bool, true, cond, ◌&&◌, List, eqb, ltb, leb}
+use Rattle.std.specs.Prelude.{ℕ, ◌+◌, ◌*◌, Bool, ◌&&◌, List, ltb, leb}
 use Rattle.rules.specs.Limits.{colliders, bodies}
 use Rattle.rules.specs.Numbers.{every}
-use Rattle.words.specs.Words.{word_at, is_mark}
+use Rattle.words.specs.Words.{word_at, is_mark, where_set}
 use Rattle.layout.specs.Body.{body_friction, body_margin, body_size, body_speculative_maximum, body_static}
 use Rattle.layout.specs.Collider.{collider_body, collider_friction, collider_margin, collider_restitution, collider_sensor, collider_size}
 use Rattle.layout.specs.Settings.{settings_friction, settings_match_contacts, settings_matching, settings_restitution}
@@ -11,10 +11,6 @@ use Rattle.layout.specs.Settings.{settings_friction, settings_match_contacts, se
 -- a combining rule is 1 to 5
 abbrev pub is_rule : ℕ → Bool
 is_rule w = ltb 0 w && leb w 5
-
--- a mark, and what is asked where it is 1
-abbrev pub where_set : ℕ → Bool → Bool
-where_set mark asked = is_mark mark && cond (eqb mark 1) asked true
 
 -- mark, coefficient, rule
 abbrev pub coefficient_fits : List ℕ → ℕ → Bool

@@ -20,6 +20,7 @@ fn overlaps_on(min1: f32, max1: f32, min2: f32, max2: f32) -> bool
 
 impl ColliderAabb {
     // Larger by the amount in each direction.
+    #[tactic(auto, unfolding(crate::specs::Boxes::grown))]
     pub fn grow(self, amount: f32) -> ColliderAabb
         ensures { result ≡ grown self amount }
     {
@@ -37,6 +38,7 @@ impl ColliderAabb {
         }
     }
 
+    #[tactic(auto, unfolding(crate::specs::Boxes::intersecting))]
     pub fn intersects(self, other: ColliderAabb) -> bool
         ensures { result ≡ intersecting self other }
     {

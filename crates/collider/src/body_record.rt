@@ -52,6 +52,7 @@ impl FromRow for BodyRecord {
 }
 
 // Body n, which may be absent.
+#[tactic(auto, using(crate::specs::LoadedLaws::body_present))]
 pub fn load_body(words: &[u32], n: u32) -> Option<BodyRecord>
     requires { (n < bodies) × (length words.now ≡ bodies_length) }
     ensures { plain_body_if result ≡ body_at words.now n }

@@ -52,6 +52,7 @@ impl FromRow for ColliderRecord {
 }
 
 // Collider n, which may be absent.
+#[tactic(auto, using(crate::specs::LoadedLaws::collider_present))]
 pub fn load_collider(words: &[u32], n: u32) -> Option<ColliderRecord>
     requires { (n < colliders) × (length words.now ≡ colliders_length) }
     ensures { plain_collider_if result ≡ collider_at words.now n }

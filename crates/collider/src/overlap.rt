@@ -34,12 +34,14 @@ impl ColliderRecord {
 }
 
 // Box 2 alone is grown.
+#[tactic(auto, using(crate::specs::RuleLaws::overlap_by_boxes))]
 pub fn overlap(c1: ColliderRecord, c2: ColliderRecord, speculative: f32) -> bool
     ensures { result ≡ overlap (plain_collider c1) (plain_collider c2) speculative }
 {
     c1.aabb().intersects(c2.grown_aabb(speculative))
 }
 
+#[tactic(auto, unfolding(rules::specs::Sides::interact))]
 pub fn layers_interact(c1: ColliderRecord, c2: ColliderRecord) -> bool
     ensures { result ≡ interact (plain_collider c1) (plain_collider c2) }
 {

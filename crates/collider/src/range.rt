@@ -1,11 +1,11 @@
 // Refusal 2 of settings, colliders and bodies: a mark not 0 or 1, a combining rule not 1 to 5, a body number of 128 or more.
 // Nothing behind a mark of 0 is tested.
 ghost use Rattle.std.specs.Prelude.{◌≡◌, ℕ, Bool, ◌+◌, ◌*◌, ◌≤◌, ◌<◌, List, length};
-ghost use Rattle.words.specs.Words.{word_at};
+ghost use Rattle.words.specs.Words.{word_at, where_set};
 ghost use Rattle.layout.specs.Body.{bodies_length, body_size};
 ghost use Rattle.layout.specs.Collider.{collider_size, colliders_length};
 ghost use Rattle.layout.specs.Settings.{settings_length};
-ghost use Rattle.collider.specs.Range.{is_rule, where_set, coefficient_fits, setting_fits, settings_fit, records_fit, colliders_fit, bodies_fit, body_number_fits, collider_values_fit, body_values_fit};
+ghost use Rattle.collider.specs.Range.{is_rule, coefficient_fits, setting_fits, settings_fit, records_fit, colliders_fit, bodies_fit, body_number_fits, collider_values_fit, body_values_fit};
 
 use crate::body_record::BodyRecord;
 use crate::collider_record::ColliderRecord;
@@ -18,7 +18,7 @@ use layout::limits::{BODIES, COLLIDERS};
 use layout::settings::{
     SETTINGS_FRICTION, SETTINGS_MATCH_CONTACTS, SETTINGS_MATCHING, SETTINGS_RESTITUTION,
 };
-use words::row::mark_fits;
+use words::row::{mark_fits, where_set};
 
 fn rule_fits(words: &[u32], at: usize) -> bool
     requires { at < length words.now }
@@ -28,16 +28,7 @@ fn rule_fits(words: &[u32], at: usize) -> bool
     0 < rule && rule <= 5
 }
 
-// A mark, and what is asked where it is 1.
-fn where_set(mark: u32, asked: bool) -> bool
-    ensures { result ≡ where_set mark asked }
-{
-    if mark == 0 {
-        return true;
-    }
-    mark == 1 && asked
-}
-
+#[tactic(auto, unfolding(crate::specs::Range::body_number_fits))]
 fn body_number_fits(words: &[u32], at: usize) -> bool
     requires { at + 2 ≤ length words.now }
     ensures { result ≡ body_number_fits words.now at }
@@ -64,14 +55,15 @@ fn setting_fits(words: &[u32], at: usize) -> bool
     where_set(mark, mark_fits(words, at + 1))
 }
 
+#[tactic(auto, unfolding(crate::specs::Range::settings_fit))]
 pub fn settings_fit(words: &[u32]) -> bool
     requires { length words.now ≡ settings_length }
     ensures { result ≡ settings_fit words.now }
 {
     mark_fits(words, SETTINGS_MATCH_CONTACTS)
-        && (rule_fits(words, SETTINGS_FRICTION + 1)
-            && (rule_fits(words, SETTINGS_RESTITUTION + 1)
-                && setting_fits(words, SETTINGS_MATCHING)))
+        && rule_fits(words, SETTINGS_FRICTION + 1)
+        && rule_fits(words, SETTINGS_RESTITUTION + 1)
+        && setting_fits(words, SETTINGS_MATCHING)
 }
 
 // A record that begins with its presence mark.
@@ -95,12 +87,13 @@ impl Record for ColliderRecord {
 
     const SIZE: usize = COLLIDER_SIZE;
 
+    #[tactic(auto, unfolding(crate::specs::Range::collider_values_fit))]
     fn values_fit(words: &[u32], at: usize) -> bool {
         body_number_fits(words, at + COLLIDER_BODY)
-            && (coefficient_fits(words, at + COLLIDER_FRICTION)
-                && (coefficient_fits(words, at + COLLIDER_RESTITUTION)
-                    && (mark_fits(words, at + COLLIDER_MARGIN)
-                        && mark_fits(words, at + COLLIDER_SENSOR))))
+            && coefficient_fits(words, at + COLLIDER_FRICTION)
+            && coefficient_fits(words, at + COLLIDER_RESTITUTION)
+            && mark_fits(words, at + COLLIDER_MARGIN)
+            && mark_fits(words, at + COLLIDER_SENSOR)
     }
 }
 
@@ -111,18 +104,21 @@ impl Record for BodyRecord {
 
     const SIZE: usize = BODY_SIZE;
 
+    #[tactic(auto, unfolding(crate::specs::Range::body_values_fit))]
     fn values_fit(words: &[u32], at: usize) -> bool {
         mark_fits(words, at + BODY_STATIC)
-            && (coefficient_fits(words, at + BODY_FRICTION)
-                && (mark_fits(words, at + BODY_MARGIN)
-                    && mark_fits(words, at + BODY_SPECULATIVE_MAXIMUM)))
+            && coefficient_fits(words, at + BODY_FRICTION)
+            && mark_fits(words, at + BODY_MARGIN)
+            && mark_fits(words, at + BODY_SPECULATIVE_MAXIMUM)
     }
 }
 
-fn record_fits<R: Record>(words: &[u32], at: usize) -> bool
-    requires { (0 < R.SIZE) × (at + R.SIZE ≤ length words.now) }
-    ensures { result ≡ where_set (word_at words.now at) (R.values_fit words.now at) }
+// Record n of those that stand one after another.
+fn record_fits<R: Record>(words: &[u32], n: usize) -> bool
+    requires { (0 < R.SIZE) × (n * R.SIZE + R.SIZE ≤ length words.now) }
+    ensures { result ≡ where_set (word_at words.now (n * R.SIZE)) (R.values_fit words.now (n * R.SIZE)) }
 {
+    let at = n * R::SIZE;
     let mark = words[at];
     if mark != 1 {
         return mark == 0;
@@ -135,12 +131,7 @@ fn records_fit<R: Record>(words: &[u32], count: usize) -> bool
     requires { (0 < R.SIZE) × (length words.now ≡ count * R.SIZE) }
     ensures { result ≡ records_fit R.values_fit R.SIZE count words.now }
 {
-    for n in 0..count {
-        if !record_fits::<R>(words, n * R::SIZE) {
-            return false;
-        }
-    }
-    true
+    (0..count).all(|n| record_fits::<R>(words, n))
 }
 
 #[tactic(auto, unfolding(crate::specs::Range::colliders_fit, crate::specs::Range::collider_fits))]

@@ -27,7 +27,8 @@ pub struct Settings {
     pub by_place: bool,
 }
 
-// Not named, matching is by place.
+// Not named, matching is by place. No `FromRow`: the row is this one record, and no other place of a row is one.
+#[tactic(auto, using(crate::specs::LoadedLaws::settings_loaded))]
 pub fn load_settings(words: &[u32]) -> Settings
     requires { length words.now ≡ settings_length }
     ensures { plain_settings result ≡ settings_of words.now }

@@ -9,9 +9,10 @@ use crate::collider_record::ColliderRecord;
 use math::pose::Pose;
 use math::vec::Vec3;
 
+// A body's values again, beside a mark and not in an Option: an absent body gives zeros, and the formulas use them.
 #[derive(Clone, Copy, PartialEq, Debug)]
 pub struct Side {
-    // The body is there. A mark beside values, since the formulas use an absent body's zeros too.
+    // The body is there.
     pub present: bool,
     // A static body.
     pub is_static: bool,
@@ -28,6 +29,7 @@ pub struct Side {
     pub sweep_radius: f32,
 }
 
+#[tactic(auto, unfolding(rules::specs::Sides::side_of))]
 fn present_side(c: ColliderRecord, b: BodyRecord) -> Side
     ensures { plain_side result ≡ side_of (plain_collider c) (Some (plain_body b)) }
 {
@@ -55,6 +57,7 @@ fn present_side(c: ColliderRecord, b: BodyRecord) -> Side
 }
 
 // An absent body gives zeros (offset to the collider too), identity rotation and not static.
+#[tactic(auto, unfolding(rules::specs::Sides::side_of))]
 fn absent_side(c: ColliderRecord) -> Side
     ensures { plain_side result ≡ side_of (plain_collider c) None }
 {

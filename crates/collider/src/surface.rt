@@ -12,6 +12,7 @@ use math::constants::HALF;
 use math::root::root;
 
 // The collider's, else the body's, else the default.
+#[tactic(auto, using(crate::proofs::GivenLaws::seen_first), unfolding(rules::specs::Surface::friction_of))]
 pub fn friction_of(s: Settings, c: ColliderRecord, a: Side) -> Coefficient
     ensures { plain_coefficient result ≡ friction_of (plain_settings s) (plain_collider c) (plain_side a) }
 {
@@ -19,6 +20,7 @@ pub fn friction_of(s: Settings, c: ColliderRecord, a: Side) -> Coefficient
 }
 
 // The collider's, else the default: never the body's.
+#[tactic(auto, using(crate::proofs::GivenLaws::seen_or_else), unfolding(rules::specs::Surface::restitution_of))]
 pub fn restitution_of(s: Settings, c: ColliderRecord) -> Coefficient
     ensures { plain_coefficient result ≡ restitution_of (plain_settings s) (plain_collider c) }
 {
@@ -26,6 +28,7 @@ pub fn restitution_of(s: Settings, c: ColliderRecord) -> Coefficient
 }
 
 // The collider's, else the body's, else 0.
+#[tactic(auto, unfolding(rules::specs::Surface::margin_of))]
 pub fn margin_of(c: ColliderRecord, a: Side) -> f32
     ensures { result ≡ margin_of (plain_collider c) (plain_side a) }
 {
@@ -33,6 +36,7 @@ pub fn margin_of(c: ColliderRecord, a: Side) -> f32
 }
 
 // 1 (a + b) × 0.5, 2 root of a × b, 3 minimum, 4 product, 5 maximum.
+#[tactic(auto, unfolding(rules::specs::Surface::ruled))]
 fn ruled(rule: u32, a: f32, b: f32) -> f32
     ensures { result ≡ ruled rule a b }
 {
@@ -53,6 +57,7 @@ fn larger_rule(a: u32, b: u32) -> u32
 }
 
 // By the larger rule number.
+#[tactic(auto, unfolding(rules::specs::Surface::combine))]
 pub fn combine(a: Coefficient, b: Coefficient) -> f32
     ensures { result ≡ combine (plain_coefficient a) (plain_coefficient b) }
 {

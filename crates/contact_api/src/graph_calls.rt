@@ -22,6 +22,7 @@ pub const ADD_ANSWER_LENGTH: usize = 1;
 
 pub const LOOK_UP_ANSWER_LENGTH: usize = 10;
 
+#[tactic(auto, using(crate::specs::CallLaws::lay_out_called))]
 pub fn sardinerod_lay_out(graph: &mut [u32], capacity: u32) -> u32
     ensures { LayOutCalled graph.old capacity graph.new result }
 {
@@ -49,6 +50,7 @@ pub fn sardinerod_add(graph: &mut [u32], request: &[u32], answer: &mut [u32]) ->
     done_number(add_called(graph, request, answer))
 }
 
+#[tactic(auto, using(crate::specs::CallLaws::edge_words_lem))]
 fn edge_words(e: ContactEdge) -> [u32; LOOK_UP_ANSWER_LENGTH]
     ensures { result ≡ edge_words (edge_value e) }
 {
@@ -86,6 +88,7 @@ pub fn sardinerod_look_up(graph: &[u32], id: u32, answer: &mut [u32]) -> u32
     done_number(look_up_called(graph, id, answer))
 }
 
+#[tactic(auto, using(crate::specs::CallLaws::remove_called))]
 pub fn sardinerod_remove(graph: &mut [u32], id: u32) -> u32
     ensures { RemoveCalled graph.old id graph.new result }
 {

@@ -237,6 +237,7 @@ fn lengths_words(capacity: usize) -> [u32; LENGTHS_LENGTH]
     ]
 }
 
+#[tactic(auto, using(crate::specs::CallLaws::lengths_answer_long, crate::specs::CallLaws::lengths_none, crate::specs::CallLaws::lengths_most, crate::specs::CallLaws::lengths_done))]
 fn lengths_called(capacity: u32, answer: &mut [u32]) -> Result<(), Refusal>
     ensures { LengthsCalled capacity answer.old answer.new (done_number (done_answer result)) }
 {
@@ -260,12 +261,14 @@ pub fn sardinerod_lengths(capacity: u32, answer: &mut [u32]) -> u32
     done_number(lengths_called(capacity, answer))
 }
 
+#[tactic(auto, unfolding(crate::specs::Layout::layout_words))]
 fn layout_words() -> [u32; LAYOUT_LENGTH]
     ensures { result ≡ layout_words }
 {
     LAYOUT
 }
 
+#[tactic(auto, using(crate::specs::CallLaws::layout_answer_long, crate::specs::CallLaws::layout_done))]
 fn layout_called(answer: &mut [u32]) -> Result<(), Refusal>
     ensures { LayoutCalled answer.old answer.new (done_number (done_answer result)) }
 {

@@ -11,7 +11,6 @@ use crate::done::done_number;
 use contact_types::refusal::Refusal;
 use trace_player::play::{PlayedLine, play_line};
 use trace_player::player::Player;
-use words::row::mark_word;
 
 pub const PLAYER_LENGTH: usize = 5;
 
@@ -43,9 +42,9 @@ fn store_player(row: &mut [u64], p: Player)
 {
     row[0] = p.place as u64;
     row[1] = p.stretch as u64;
-    row[2] = u64::from(mark_word(p.after_point));
-    row[3] = u64::from(mark_word(p.settings));
-    row[4] = u64::from(mark_word(p.fits));
+    row[2] = u64::from(p.after_point);
+    row[3] = u64::from(p.settings);
+    row[4] = u64::from(p.fits);
 }
 
 fn store_answer(row: &mut [u64], ended: u64, written: u64)

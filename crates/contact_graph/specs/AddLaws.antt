@@ -20,6 +20,9 @@ use Rattle.contact_range.specs.Recorded.{capacity_of, given_of, listed_count, fr
 use Rattle.contact_range.specs.Range.{is_mark, right_length, in_range}
 use Rattle.manifold_records.specs.ListLaws.{length_zeros}
 use Rattle.contact_graph.specs.declared.call.Request.{Request}
+use Rattle.rules.specs.Limits.{bodies, colliders, most_contacts}
+use Rattle.layout.specs.Contact.{contact_cache, contact_size}
+use Rattle.layout.specs.Graph.{graph_list}
 
 -- a mark below 2 is 1 where it is read as set, and 0 where it is not
 mark_word_lem : (w : ℕ) → w < 2 → mark_word (eqb w 1) ≡ w
@@ -46,14 +49,14 @@ pub record Fitted (a : Request) : Type 0 where
 pub fitted : (a : Request) → request_fits a ≡ true → Fitted a
 unfolding request_fits
 fitted a e =
-    let colliders = ltb a.collider1 256 && ltb a.collider2 256 in
+    let names = ltb a.collider1 colliders && ltb a.collider2 colliders in
     let b1 = body_fits a.has_body1 a.body1 in
     let b2 = body_fits a.has_body2 a.body2 in
     let ce = is_mark a.contact_events in
     let mc = is_mark a.modify_contacts in
-    let bodies = rest_of colliders ((b1 && b2) && (ce && mc)) e in
-    let marks = rest_of (b1 && b2) (ce && mc) bodies in
-    let both = first_of_lem (b1 && b2) (ce && mc) bodies in
+    let rest = rest_of names ((b1 && b2) && (ce && mc)) e in
+    let marks = rest_of (b1 && b2) (ce && mc) rest in
+    let both = first_of_lem (b1 && b2) (ce && mc) rest in
     record {
       body1 = body_mark a.has_body1 a.body1 (first_of_lem b1 b2 both);
       body2 = body_mark a.has_body2 a.body2 (rest_of b1 b2 both);
@@ -62,7 +65,7 @@ fitted a e =
     }
   where
     body_mark : (m n : ℕ) → body_fits m n ≡ true → m < 2
-    body_mark m n q = ltb-true m 2 (first_of_lem (is_mark m) (cond (eqb m 1) (ltb n 128) true) q)
+    body_mark m n q = ltb-true m 2 (first_of_lem (is_mark m) (cond (eqb m 1) (ltb n bodies) true) q)
 
 -- the words that the code writes
 pub request_words_lem : (a : Request) (index : ℕ) {w1 w2 d : ℕ} → request_fits a ≡ true → w1 ≡ body_word a.has_body1 a.body1 → w2 ≡ body_word a.has_body2 a.body2 → d ≡ float_word a.speculative_distance
@@ -81,16 +84,16 @@ request_words_lem a index {w1} {w2} {d} e p q s =
     ∙ (λ i. a.collider1 ∷ a.collider2 ∷ a.has_body1 ∷ w1 ∷ a.has_body2 ∷ w2 ∷ index ∷ 0 ∷ ce i ∷ 0 ∷ 0 ∷ 0 ∷ 0 ∷ 0 ∷ 0 ∷ 0 ∷ 0 ∷ mc i ∷ 0 ∷ sym s i ∷ []))
 
 -- twenty words over a blank record
-pub stored_over : (g : List ℕ) (at : ℕ) (head : List ℕ) {h k : List ℕ} → length head ≡ 20 → h ≡ put g at (zeros 523) → k ≡ put h at head → k ≡ put g at (head ++ zeros 503)
+pub stored_over : (g : List ℕ) (at : ℕ) (head : List ℕ) {h k : List ℕ} → length head ≡ contact_cache → h ≡ put g at (zeros contact_size) → k ≡ put h at head → k ≡ put g at (head ++ zeros (contact_size - contact_cache))
 stored_over g at head {h} {k} l p q =
-    q ∙ ap (λ (x : List ℕ). put x at head) (p ∙ ap (put g at) (sym (zeros_add 20 503)) ∙ put_append g at (zeros 20) (zeros 503))
-    ∙ put_comm (put g at (zeros 20)) (at + length (zeros 20)) (zeros 503) at head (inr (omega (arith, length_zeros 20, l)))
-    ∙ ap (λ (x : List ℕ). put x (at + length (zeros 20)) (zeros 503)) (put_put g at (zeros 20) head (length_zeros 20 ∙ sym l))
-    ∙ put_next g at head (zeros 503) (length (zeros 20)) (l ∙ sym (length_zeros 20))
+    q ∙ ap (λ (x : List ℕ). put x at head) (p ∙ ap (put g at) (sym (zeros_add contact_cache (contact_size - contact_cache))) ∙ put_append g at (zeros contact_cache) (zeros (contact_size - contact_cache)))
+    ∙ put_comm (put g at (zeros contact_cache)) (at + length (zeros contact_cache)) (zeros (contact_size - contact_cache)) at head (inr (omega (arith, length_zeros contact_cache, l)))
+    ∙ ap (λ (x : List ℕ). put x (at + length (zeros contact_cache)) (zeros (contact_size - contact_cache))) (put_put g at (zeros contact_cache) head (length_zeros contact_cache ∙ sym l))
+    ∙ put_next g at head (zeros (contact_size - contact_cache)) (length (zeros contact_cache)) (l ∙ sym (length_zeros contact_cache))
 
 -- ---- the stores of an addition are those of `added_words`
 pub add_stored : (g : List ℕ) (a : Request) {w1 w2 w3 : List ℕ} {id at listed given freed m l n : ℕ} → id ≡ new_id_of g → at ≡ contact_at g id → listed ≡ listed_count g → given ≡ given_of g → freed ≡ free_count g
-    → w1 ≡ put g at (new_contact_words listed (addition_of a) ++ zeros 503) → w2 ≡ put w1 (4 + listed) (id ∷ []) → m ≡ cond (eqb freed 0) (given + 1) given → l ≡ listed + 1 → n ≡ freed - 1
+    → w1 ≡ put g at (new_contact_words listed (addition_of a) ++ zeros (contact_size - contact_cache)) → w2 ≡ put w1 (graph_list + listed) (id ∷ []) → m ≡ cond (eqb freed 0) (given + 1) given → l ≡ listed + 1 → n ≡ freed - 1
     → w3 ≡ put w2 1 (m ∷ l ∷ n ∷ []) → w3 ≡ added_words g a
 unfolding added_words
 add_stored g a p q s t u x y m l n z =
@@ -99,9 +102,9 @@ add_stored g a p q s t u x y m l n z =
 -- an addition has room
 pub record AddRoom (g : List ℕ) : Type 0 where
   pub id : new_id_of g < capacity_of g
-  pub listed : 4 + listed_count g < length g
-  pub given : given_of g ≤ 256
-  pub few : listed_count g < 256
+  pub listed : graph_list + listed_count g < length g
+  pub given : given_of g ≤ most_contacts
+  pub few : listed_count g < most_contacts
 
 pub add_room : {g : List ℕ} → Checked g → listed_count g < capacity_of g → AddRoom g
 unfolding new_id_of

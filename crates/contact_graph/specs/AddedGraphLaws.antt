@@ -18,7 +18,7 @@ use Rattle.manifold_records.specs.ListLaws.{map_upto_next, map_upto_same, get_d_
 use Rattle.manifold_records.specs.Written.{zeros}
 use Rattle.contact_records.specs.ApartLaws.{pair_same}
 use Rattle.contact_records.proofs.BackLaws.{pair_held}
-use Rattle.layout.specs.Contact.{contact_manifolds, contact_size}
+use Rattle.layout.specs.Contact.{contact_cache, contact_manifolds, contact_size}
 use Rattle.layout.specs.Graph.{graph_length}
 use Rattle.contact_records.specs.LengthLaws.{length_contact}
 use Rattle.contact_records.specs.HeldLaws.{Holds}
@@ -39,6 +39,7 @@ use Rattle.contact_graph.specs.AddKeepsLaws.{NewId, lowest, freed, add_keeps}
 use Rattle.contact_graph.specs.RemoveKeepsLaws.{colliders_swap}
 use Rattle.contact_graph.specs.AddLaws.{request_words_lem, add_room}
 use Rattle.contact_graph.specs.declared.call.Request.{Request}
+use Rattle.rules.specs.Limits.{bodies, colliders}
 
 -- ---- what an accepted addition passed
 pub record Accepted (g : List ℕ) (a : Request) : Type 0 where
@@ -81,12 +82,12 @@ request_words index a =
     a.collider1 ∷ a.collider2 ∷ a.has_body1 ∷ body_word a.has_body1 a.body1 ∷ a.has_body2 ∷ body_word a.has_body2 a.body2 ∷ index ∷ 0 ∷ a.contact_events
     ∷ 0 ∷ 0 ∷ 0 ∷ 0 ∷ 0 ∷ 0 ∷ 0 ∷ 0 ∷ a.modify_contacts ∷ 0 ∷ float_word a.speculative_distance ∷ []
 
-pub new_words_lem : (index id : ℕ) (a : Request) → request_fits a ≡ true → contact_words index (new_pair id (addition_of a)) ≡ request_words index a ++ zeros 503
-new_words_lem index id a e = new_contact index id (addition_of a) ∙ ap (λ (ws : List ℕ). ws ++ zeros 503) (sym (request_words_lem a index e refl refl refl))
+pub new_words_lem : (index id : ℕ) (a : Request) → request_fits a ≡ true → contact_words index (new_pair id (addition_of a)) ≡ request_words index a ++ zeros (contact_size - contact_cache)
+new_words_lem index id a e = new_contact index id (addition_of a) ∙ ap (λ (ws : List ℕ). ws ++ zeros (contact_size - contact_cache)) (sym (request_words_lem a index e refl refl refl))
 
 -- they are in range
-pub words_fit : (c1 c2 m1 b1 m2 b2 index ce mc d : ℕ) → ltb c1 256 ≡ true → ltb c2 256 ≡ true → body_fits m1 b1 ≡ true → body_fits m2 b2 ≡ true → is_mark ce ≡ true → is_mark mc ≡ true
-    → contact_fits (c1 ∷ c2 ∷ m1 ∷ b1 ∷ m2 ∷ b2 ∷ index ∷ 0 ∷ ce ∷ 0 ∷ 0 ∷ 0 ∷ 0 ∷ 0 ∷ 0 ∷ 0 ∷ 0 ∷ mc ∷ 0 ∷ d ∷ zeros 503) 0 ≡ true
+pub words_fit : (c1 c2 m1 b1 m2 b2 index ce mc d : ℕ) → ltb c1 colliders ≡ true → ltb c2 colliders ≡ true → body_fits m1 b1 ≡ true → body_fits m2 b2 ≡ true → is_mark ce ≡ true → is_mark mc ≡ true
+    → contact_fits (c1 ∷ c2 ∷ m1 ∷ b1 ∷ m2 ∷ b2 ∷ index ∷ 0 ∷ ce ∷ 0 ∷ 0 ∷ 0 ∷ 0 ∷ 0 ∷ 0 ∷ 0 ∷ 0 ∷ mc ∷ 0 ∷ d ∷ zeros (contact_size - contact_cache)) 0 ≡ true
 unfolding contact_fits names_fit marks_fit manifolds_fit every zeros
 words_fit c1 c2 m1 b1 m2 b2 index ce mc d p q s t u v = rw (p, q, s, t, u, v)
 
@@ -94,15 +95,15 @@ words_fit c1 c2 m1 b1 m2 b2 index ce mc d p q s t u v = rw (p, q, s, t, u, v)
 pub body_word_lem : (m n : ℕ) → body_fits m n ≡ true → body_fits m (body_word m n) ≡ true
 body_word_lem m n e = go (eqb m 1) e
   where
-    go : (b : Bool) → is_mark m && cond b (ltb n 128) true ≡ true → is_mark m && cond b (ltb (cond b n 0) 128) true ≡ true
+    go : (b : Bool) → is_mark m && cond b (ltb n bodies) true ≡ true → is_mark m && cond b (ltb (cond b n 0) bodies) true ≡ true
     go true s = s
     go false s = s
 
-pub request_fit : (index : ℕ) (a : Request) → request_fits a ≡ true → contact_fits (request_words index a ++ zeros 503) 0 ≡ true
+pub request_fit : (index : ℕ) (a : Request) → request_fits a ≡ true → contact_fits (request_words index a ++ zeros (contact_size - contact_cache)) 0 ≡ true
 unfolding request_fits
 request_fit index a e =
-    let c1 = ltb a.collider1 256 in
-    let c2 = ltb a.collider2 256 in
+    let c1 = ltb a.collider1 colliders in
+    let c2 = ltb a.collider2 colliders in
     let b1 = body_fits a.has_body1 a.body1 in
     let b2 = body_fits a.has_body2 a.body2 in
     let ce = is_mark a.contact_events in
@@ -156,12 +157,12 @@ module _ {g : List ℕ} (a : Request) (c : Checked g) (ok : Accepted g a) where
   pub own_words : Holds after (contact_at after (new_id_of g)) (new_words g a)
   own_words = record { each = λ i l. effect.own i (omega (arith, length_contact (listed_count g) (new_pair (new_id_of g) (addition_of a)))) }
 
-  pub own_word : (o : ℕ) → o < contact_size → word_at after (contact_at after (new_id_of g) + o) ≡ word_at (request_words (listed_count g) a ++ zeros 503) o
+  pub own_word : (o : ℕ) → o < contact_size → word_at after (contact_at after (new_id_of g) + o) ≡ word_at (request_words (listed_count g) a ++ zeros (contact_size - contact_cache)) o
   own_word o l = effect.own o l ∙ ap (λ (ws : List ℕ). word_at ws o) (new_words_lem (listed_count g) (new_id_of g) a ok.request)
 
   pub record_fits : contact_fits after (contact_at after (new_id_of g)) ≡ true
   record_fits =
-      let ws = request_words (listed_count g) a ++ zeros 503 in
+      let ws = request_words (listed_count g) a ++ zeros (contact_size - contact_cache) in
       fits_same ws 0 after (contact_at after (new_id_of g)) (λ o l _. own_word o l ∙ ap (word_at ws) (sym (zero-add o))) ∙ request_fit (listed_count g) a ok.request
 
   -- the record of a listed contact is as it was

@@ -84,9 +84,13 @@ new_edge a b =
       contact_events = false;
     }
 
--- the pair stands already, in either order
+-- the pair at a place of the list is that pair, in either order
+abbrev pub stands_at : List ℕ → ℕ → ℕ → ℕ → Bool
+stands_at g a b p = same_colliders a b (word_at g (contact_at g (listed_at g p))) (word_at g (contact_at g (listed_at g p) + 1))
+
+-- the pair stands already
 unfoldable pub pair_stands : List ℕ → ℕ → ℕ → Bool
-pair_stands g a b = any (λ p. same_colliders a b (word_at g (contact_at g (listed_at g p))) (word_at g (contact_at g (listed_at g p) + 1))) (listed_count g)
+pair_stands g a b = any (stands_at g a b) (listed_count g)
 
 -- 1 to 5, in that order; 0 where nothing is refused
 unfoldable pub add_refusal : List ℕ → Request → ℕ

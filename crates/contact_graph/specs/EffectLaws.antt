@@ -8,17 +8,17 @@ use Rattle.rows.specs.SlotLaws.{slots_apart, slot_fits}
 use Rattle.rows.specs.Laws.{length_put, get_d_put, get_d_put_apart}
 use Rattle.words.specs.Words.{word_at}
 use Rattle.layout.specs.Contact.{contact_pair_index, contact_size}
-use Rattle.layout.specs.Graph.{contact_place, graph_free}
+use Rattle.layout.specs.Graph.{contact_place, graph_free, graph_list}
 use Rattle.contact_range.specs.Recorded.{capacity_of, given_of, listed_count, free_count, listed_at, free_at, contact_at}
 use Rattle.contact_range.specs.Conditions.{RightLength}
 
 -- ---- where a record lies in a graph of the right length
 module _ {g : List ℕ} (r : RightLength g) where
-  pub contact_after : (i : ℕ) → 4 + 2 * capacity_of g ≤ contact_at g i
+  pub contact_after : (i : ℕ) → graph_list + 2 * capacity_of g ≤ contact_at g i
   contact_after i = omega arith
 
   pub contact_room : (i : ℕ) → i < capacity_of g → contact_at g i + contact_size ≤ length g
-  contact_room i h = slot_fits (4 + 2 * capacity_of g) contact_size (capacity_of g) i (length g) h (omega (arith, r.size))
+  contact_room i h = slot_fits (graph_list + 2 * capacity_of g) contact_size (capacity_of g) i (length g) h (omega (arith, r.size))
 
 -- two numbers that differ, in order, and whether two are one
 pub differ : (a b : ℕ) → (a ≡ b → ⊥) → (a < b) ⊎ (b < a)
@@ -61,22 +61,22 @@ module _ (g words : List ℕ) (id given freed : ℕ) (r : RightLength g) (below 
   recorded = put g (contact_at g id) words
 
   abbrev listing : List ℕ
-  listing = put recorded (4 + listed_count g) (id ∷ [])
+  listing = put recorded (graph_list + listed_count g) (id ∷ [])
 
   abbrev added : List ℕ
   added = put listing 1 (given ∷ (listed_count g + 1) ∷ freed ∷ [])
 
   length_listing : length listing ≡ length g
-  length_listing = length_put recorded (4 + listed_count g) (id ∷ []) ∙ length_put g (contact_at g id) words
+  length_listing = length_put recorded (graph_list + listed_count g) (id ∷ []) ∙ length_put g (contact_at g id) words
 
-  long : 4 + 2 * capacity_of g < length g
+  long : graph_list + 2 * capacity_of g < length g
   long = let z = r.least in omega (arith, r.size)
 
   -- a word that no store reaches
   kept : (j : ℕ) → (j < 1) ⊎ (4 ≤ j) → (j < 4 + listed_count g) ⊎ (5 + listed_count g ≤ j) → (j < contact_at g id) ⊎ (contact_at g id + contact_size ≤ j) → word_at added j ≡ word_at g j
   kept j a b c =
       get_d_put_apart listing 1 (given ∷ (listed_count g + 1) ∷ freed ∷ []) j 0 a
-      ∙ get_d_put_apart recorded (4 + listed_count g) (id ∷ []) j 0 (elim b [ inl x ↦ inl x | inr x ↦ inr (omega arith) ])
+      ∙ get_d_put_apart recorded (graph_list + listed_count g) (id ∷ []) j 0 (elim b [ inl x ↦ inl x | inr x ↦ inr (omega arith) ])
       ∙ get_d_put_apart g (contact_at g id) words j 0 (elim c [ inl x ↦ inl x | inr x ↦ inr (omega arith) ])
 
   head : (k : ℕ) → k < 3 → word_at added (1 + k) ≡ get_or (given ∷ (listed_count g + 1) ∷ freed ∷ []) k 0
@@ -93,19 +93,19 @@ module _ (g words : List ℕ) (id given freed : ℕ) (r : RightLength g) (below 
         given = head 0 (omega arith);
         listed = head 1 (omega arith);
         freed = head 2 (omega arith);
-        list = λ p h. kept (4 + p) (inr (omega arith)) (inl (omega arith)) (inl (omega (arith, contact_after r id)));
+        list = λ p h. kept (graph_list + p) (inr (omega arith)) (inl (omega arith)) (inl (omega (arith, contact_after r id)));
         last =
-            get_d_put_apart listing 1 (given ∷ (listed_count g + 1) ∷ freed ∷ []) (4 + listed_count g) 0 (inr (omega arith))
-            ∙ ap (λ (j : ℕ). word_at listing j) (let e : 4 + listed_count g ≡ 4 + listed_count g + 0 = omega arith in e)
-            ∙ get_d_put recorded (4 + listed_count g) (id ∷ []) 0 0 (omega arith) (omega (arith, length_put g (contact_at g id) words, long));
-        free = λ k h. ap (λ (c : ℕ). word_at added (graph_free c + k)) capacity_kept ∙ kept (4 + capacity_of g + k) (inr (omega arith)) (inr (omega arith)) (inl (omega (arith, contact_after r id)));
+            get_d_put_apart listing 1 (given ∷ (listed_count g + 1) ∷ freed ∷ []) (graph_list + listed_count g) 0 (inr (omega arith))
+            ∙ ap (λ (j : ℕ). word_at listing j) (let e : graph_list + listed_count g ≡ graph_list + listed_count g + 0 = omega arith in e)
+            ∙ get_d_put recorded (graph_list + listed_count g) (id ∷ []) 0 0 (omega arith) (omega (arith, length_put g (contact_at g id) words, long));
+        free = λ k h. ap (λ (c : ℕ). word_at added (graph_free c + k)) capacity_kept ∙ kept (graph_list + capacity_of g + k) (inr (omega arith)) (inr (omega arith)) (inl (omega (arith, contact_after r id)));
         others =
             λ i o h n l. ap (λ (c : ℕ). word_at added (contact_place c i + o)) capacity_kept
-            ∙ kept (contact_at g i + o) (inr (omega (arith, contact_after r i))) (inr (omega (arith, contact_after r i))) (word_apart (4 + 2 * capacity_of g) i id o n l);
+            ∙ kept (contact_at g i + o) (inr (omega (arith, contact_after r i))) (inr (omega (arith, contact_after r i))) (word_apart (graph_list + 2 * capacity_of g) i id o n l);
         own =
             λ o l. ap (λ (c : ℕ). word_at added (contact_place c id + o)) capacity_kept
             ∙ get_d_put_apart listing 1 (given ∷ (listed_count g + 1) ∷ freed ∷ []) (contact_at g id + o) 0 (inr (omega (arith, contact_after r id)))
-            ∙ get_d_put_apart recorded (4 + listed_count g) (id ∷ []) (contact_at g id + o) 0 (inr (omega (arith, contact_after r id)))
+            ∙ get_d_put_apart recorded (graph_list + listed_count g) (id ∷ []) (contact_at g id + o) 0 (inr (omega (arith, contact_after r id)))
             ∙ get_d_put g (contact_at g id) words o 0 (omega (arith, full)) (omega (arith, contact_room r id below));
       }
 
@@ -142,27 +142,27 @@ other_word base i j o k h l n =
 
 module _ (g : List ℕ) (id p last : ℕ) (r : RightLength g) (here : p < listed_count g) (fits : listed_count g ≤ capacity_of g) (below : last < capacity_of g) (spare : free_count g < capacity_of g) where
   abbrev filled : List ℕ
-  filled = put g (4 + p) (last ∷ [])
+  filled = put g (graph_list + p) (last ∷ [])
 
   abbrev renamed : List ℕ
   renamed = put filled (contact_at g last + contact_pair_index) (p ∷ [])
 
   abbrev freeing : List ℕ
-  freeing = put renamed (4 + capacity_of g + free_count g) (id ∷ [])
+  freeing = put renamed (graph_list + capacity_of g + free_count g) (id ∷ [])
 
   abbrev removed : List ℕ
   removed = put freeing 2 ((listed_count g - 1) ∷ (free_count g + 1) ∷ [])
 
   length_filled : length filled ≡ length g
-  length_filled = length_put g (4 + p) (last ∷ [])
+  length_filled = length_put g (graph_list + p) (last ∷ [])
 
   length_renamed : length renamed ≡ length g
   length_renamed = length_put filled (contact_at g last + contact_pair_index) (p ∷ []) ∙ length_filled
 
   length_freeing : length freeing ≡ length g
-  length_freeing = length_put renamed (4 + capacity_of g + free_count g) (id ∷ []) ∙ length_renamed
+  length_freeing = length_put renamed (graph_list + capacity_of g + free_count g) (id ∷ []) ∙ length_renamed
 
-  roomy : 4 + 2 * capacity_of g < length g
+  roomy : graph_list + 2 * capacity_of g < length g
   roomy = let z = r.least in omega (arith, r.size)
 
   -- a word that no store reaches
@@ -170,9 +170,9 @@ module _ (g : List ℕ) (id p last : ℕ) (r : RightLength g) (here : p < listed
       → (j < contact_at g last + contact_pair_index) ⊎ (contact_at g last + contact_pair_index + 1 ≤ j) → (j < 4 + p) ⊎ (5 + p ≤ j) → word_at removed j ≡ word_at g j
   still j a b c d =
       get_d_put_apart freeing 2 ((listed_count g - 1) ∷ (free_count g + 1) ∷ []) j 0 a
-      ∙ get_d_put_apart renamed (4 + capacity_of g + free_count g) (id ∷ []) j 0 (elim b [ inl x ↦ inl x | inr x ↦ inr (omega arith) ])
+      ∙ get_d_put_apart renamed (graph_list + capacity_of g + free_count g) (id ∷ []) j 0 (elim b [ inl x ↦ inl x | inr x ↦ inr (omega arith) ])
       ∙ get_d_put_apart filled (contact_at g last + contact_pair_index) (p ∷ []) j 0 (elim c [ inl x ↦ inl x | inr x ↦ inr (omega arith) ])
-      ∙ get_d_put_apart g (4 + p) (last ∷ []) j 0 (elim d [ inl x ↦ inl x | inr x ↦ inr (omega arith) ])
+      ∙ get_d_put_apart g (graph_list + p) (last ∷ []) j 0 (elim d [ inl x ↦ inl x | inr x ↦ inr (omega arith) ])
 
   counted : (k : ℕ) → k < 2 → word_at removed (2 + k) ≡ get_or ((listed_count g - 1) ∷ (free_count g + 1) ∷ []) k 0
   counted k h = get_d_put freeing 2 ((listed_count g - 1) ∷ (free_count g + 1) ∷ []) k 0 h (omega (arith, length_freeing, roomy))
@@ -181,26 +181,26 @@ module _ (g : List ℕ) (id p last : ℕ) (r : RightLength g) (here : p < listed
   same_capacity = still 0 (inl (omega arith)) (inl (omega arith)) (inl (omega (arith, contact_after r last))) (inl (omega arith))
 
   -- the three single words, once the later stores are passed
-  at_gap : word_at removed (4 + p) ≡ last
+  at_gap : word_at removed (graph_list + p) ≡ last
   at_gap =
-      get_d_put_apart freeing 2 ((listed_count g - 1) ∷ (free_count g + 1) ∷ []) (4 + p) 0 (inr (omega arith))
-      ∙ get_d_put_apart renamed (4 + capacity_of g + free_count g) (id ∷ []) (4 + p) 0 (inl (omega arith))
-      ∙ get_d_put_apart filled (contact_at g last + contact_pair_index) (p ∷ []) (4 + p) 0 (inl (omega (arith, contact_after r last)))
-      ∙ ap (λ (j : ℕ). word_at filled j) (let e : 4 + p ≡ 4 + p + 0 = omega arith in e)
-      ∙ get_d_put g (4 + p) (last ∷ []) 0 0 (omega arith) (omega (arith, roomy))
+      get_d_put_apart freeing 2 ((listed_count g - 1) ∷ (free_count g + 1) ∷ []) (graph_list + p) 0 (inr (omega arith))
+      ∙ get_d_put_apart renamed (graph_list + capacity_of g + free_count g) (id ∷ []) (graph_list + p) 0 (inl (omega arith))
+      ∙ get_d_put_apart filled (contact_at g last + contact_pair_index) (p ∷ []) (graph_list + p) 0 (inl (omega (arith, contact_after r last)))
+      ∙ ap (λ (j : ℕ). word_at filled j) (let e : graph_list + p ≡ graph_list + p + 0 = omega arith in e)
+      ∙ get_d_put g (graph_list + p) (last ∷ []) 0 0 (omega arith) (omega (arith, roomy))
 
   at_index : word_at removed (contact_at g last + contact_pair_index) ≡ p
   at_index =
       get_d_put_apart freeing 2 ((listed_count g - 1) ∷ (free_count g + 1) ∷ []) (contact_at g last + contact_pair_index) 0 (inr (omega (arith, contact_after r last)))
-      ∙ get_d_put_apart renamed (4 + capacity_of g + free_count g) (id ∷ []) (contact_at g last + contact_pair_index) 0 (inr (omega (arith, contact_after r last)))
+      ∙ get_d_put_apart renamed (graph_list + capacity_of g + free_count g) (id ∷ []) (contact_at g last + contact_pair_index) 0 (inr (omega (arith, contact_after r last)))
       ∙ ap (λ (j : ℕ). word_at renamed j) (let e : contact_at g last + contact_pair_index ≡ contact_at g last + contact_pair_index + 0 = omega arith in e)
       ∙ get_d_put filled (contact_at g last + contact_pair_index) (p ∷ []) 0 0 (omega arith) (omega (arith, length_filled, contact_room r last below))
 
-  at_free : word_at removed (4 + capacity_of g + free_count g) ≡ id
+  at_free : word_at removed (graph_list + capacity_of g + free_count g) ≡ id
   at_free =
-      get_d_put_apart freeing 2 ((listed_count g - 1) ∷ (free_count g + 1) ∷ []) (4 + capacity_of g + free_count g) 0 (inr (omega arith))
-      ∙ ap (λ (j : ℕ). word_at freeing j) (let e : 4 + capacity_of g + free_count g ≡ 4 + capacity_of g + free_count g + 0 = omega arith in e)
-      ∙ get_d_put renamed (4 + capacity_of g + free_count g) (id ∷ []) 0 0 (omega arith) (omega (arith, length_renamed, roomy))
+      get_d_put_apart freeing 2 ((listed_count g - 1) ∷ (free_count g + 1) ∷ []) (graph_list + capacity_of g + free_count g) 0 (inr (omega arith))
+      ∙ ap (λ (j : ℕ). word_at freeing j) (let e : graph_list + capacity_of g + free_count g ≡ graph_list + capacity_of g + free_count g + 0 = omega arith in e)
+      ∙ get_d_put renamed (graph_list + capacity_of g + free_count g) (id ∷ []) 0 0 (omega arith) (omega (arith, length_renamed, roomy))
 
   pub remove_effect : RemoveEffect g removed id p last
   remove_effect =
@@ -211,16 +211,16 @@ module _ (g : List ℕ) (id p last : ℕ) (r : RightLength g) (here : p < listed
         listed = counted 0 (omega arith);
         freed = counted 1 (omega arith);
         list =
-            λ q h n. still (4 + q) (inr (omega arith)) (inl (omega arith)) (inl (omega (arith, contact_after r last)))
+            λ q h n. still (graph_list + q) (inr (omega arith)) (inl (omega arith)) (inl (omega (arith, contact_after r last)))
             (elim (differ q p n) [ inl x ↦ inl (omega arith) | inr x ↦ inr (omega arith) ]);
         gap = at_gap;
         free =
             λ k h. ap (λ (c : ℕ). word_at removed (graph_free c + k)) same_capacity
-            ∙ still (4 + capacity_of g + k) (inr (omega arith)) (inl (omega arith)) (inl (omega (arith, contact_after r last))) (inr (omega arith));
+            ∙ still (graph_list + capacity_of g + k) (inr (omega arith)) (inl (omega arith)) (inl (omega (arith, contact_after r last))) (inr (omega arith));
         free_last = ap (λ (c : ℕ). word_at removed (graph_free c + free_count g)) same_capacity ∙ at_free;
         words =
             λ i o h l n. ap (λ (c : ℕ). word_at removed (contact_place c i + o)) same_capacity
             ∙ still (contact_at g i + o) (inr (omega (arith, contact_after r i))) (inr (omega (arith, contact_after r i)))
-            (other_word (4 + 2 * capacity_of g) i last o contact_pair_index l (omega arith) n) (inr (omega (arith, contact_after r i)));
+            (other_word (graph_list + 2 * capacity_of g) i last o contact_pair_index l (omega arith) n) (inr (omega (arith, contact_after r i)));
         moved = ap (λ (c : ℕ). word_at removed (contact_place c last + contact_pair_index)) same_capacity ∙ at_index;
       }

@@ -20,8 +20,8 @@ use Rattle.manifold_records.specs.ListLaws.{map_upto_same}
 use Rattle.manifold_records.specs.Recorded.{point_at, points_at, manifold_at, manifolds_at}
 use Rattle.contact_records.specs.ApartLaws.{vec3_same, names_same, edge_same, flags_same, cache_same}
 use Rattle.contact_records.specs.HeldLaws.{Same, same_in, word_same, first_same}
-use Rattle.layout.specs.Contact.{contact_manifolds, contact_size}
-use Rattle.layout.specs.Graph.{contact_place}
+use Rattle.layout.specs.Contact.{cache_size, contact_cache, contact_manifolds, contact_size}
+use Rattle.layout.specs.Graph.{contact_place, graph_list}
 use Rattle.layout.specs.Manifold.{manifold_points, manifold_size}
 use Rattle.layout.specs.Point.{point_size}
 use Rattle.contact_records.specs.Recorded.{int_of, pair_at}
@@ -43,7 +43,7 @@ same_offset size i k o p a b e =
     ]
 
 pub same_word : (m n j k u v : ℕ) → j < 4 → k < 4 → u < 18 → v < 18 → stored_point_place m j + u ≡ stored_point_place n k + v → u ≡ v
-same_word m n j k u v a b c d e = same_offset 18 j k u v c d (same_offset 81 m n (j * 18 + u) (k * 18 + v) (omega arith) (omega arith) (omega arith))
+same_word m n j k u v a b c d e = same_offset 18 j k u v c d (same_offset manifold_size m n (j * 18 + u) (k * 18 + v) (omega arith) (omega arith) (omega arith))
 
 -- a list twice mapped
 pub map_map {ℓ ℓ'} : {A : Type ℓ} {B : Type ℓ'} (f : A → B) (h : ℕ → A) (l : List ℕ) → map f (map h l) ≡ map (λ k. f (h k)) l
@@ -51,7 +51,7 @@ map_map f h [] = refl
 map_map f h (x ∷ l) = ap (λ r. f (h x) ∷ r) (map_map f h l)
 
 module _ {g h : List ℕ} (c : Checked g) (w : ImpulsesWritten g h) where
-  pub head_kept : (j : ℕ) → j < 4 + 2 * capacity_of g → word_at h j ≡ word_at g j
+  pub head_kept : (j : ℕ) → j < graph_list + 2 * capacity_of g → word_at h j ≡ word_at g j
   head_kept j l = w.rest j (λ a. omega (arith, a.place, contact_after c.right a.contact))
 
   pub capacity_kept : capacity_of h ≡ capacity_of g
@@ -67,10 +67,10 @@ module _ {g h : List ℕ} (c : Checked g) (w : ImpulsesWritten g h) where
   freed_kept = let z = c.right.least in head_kept 3 (omega arith)
 
   pub listed_at_lem : (p : ℕ) → p < listed_count g → listed_at h p ≡ listed_at g p
-  listed_at_lem p l = let n = counts c.range in head_kept (4 + p) (omega arith)
+  listed_at_lem p l = let n = counts c.range in head_kept (graph_list + p) (omega arith)
 
   pub free_at_lem : (k : ℕ) → k < free_count g → free_at h k ≡ free_at g k
-  free_at_lem k l = let n = counts c.range in ap (λ (m : ℕ). word_at h (4 + m + k)) capacity_kept ∙ head_kept (4 + capacity_of g + k) (omega arith)
+  free_at_lem k l = let n = counts c.range in ap (λ (m : ℕ). word_at h (graph_list + m + k)) capacity_kept ∙ head_kept (graph_list + capacity_of g + k) (omega arith)
 
   -- ---- a record's words
   pub record_word : (i o : ℕ) → o < contact_size
@@ -82,7 +82,7 @@ module _ {g h : List ℕ} (c : Checked g) (w : ImpulsesWritten g h) where
       let few : a.manifold < 6 = omega (arith, a.counted, f.manifolds) in
       let held : a.point < 4 = omega (arith, a.stored, f.points a.manifold a.counted) in
       n a.manifold a.point a.word few held a.least a.most a.unlike
-      (same_offset 523 i a.contact o (stored_point_place a.manifold a.point + a.word) l (omega (arith, a.most)) (omega (arith, a.place))))
+      (same_offset contact_size i a.contact o (stored_point_place a.manifold a.point + a.word) l (omega (arith, a.most)) (omega (arith, a.place))))
 
   -- what stands before the manifolds, and their number
   pub first_words_lem : (i o : ℕ) → o ≤ contact_manifolds → word_at h (contact_at h i + o) ≡ word_at g (contact_at g i + o)
@@ -95,7 +95,7 @@ module _ {g h : List ℕ} (c : Checked g) (w : ImpulsesWritten g h) where
   pub own_run : (i n : ℕ) → n ≤ 37 → Same g (contact_at g i) h (contact_at h i) n
   own_run i n l = record { each = λ j b. first_words_lem i j (omega arith) }
 
-  pub optional_kept : (i o : ℕ) → o < 36 → optional_fits bodies h (contact_at h i + o) ≡ optional_fits bodies g (contact_at g i + o)
+  pub optional_kept : (i o : ℕ) → o < contact_manifolds → optional_fits bodies h (contact_at h i + o) ≡ optional_fits bodies g (contact_at g i + o)
   optional_kept i o l =
       let s = first_run i o 2 (omega arith) in
       λ j. is_mark (first_same s tt j) && cond (eqb (first_same s tt j) 1) (ltb (word_same s 1 tt j) bodies) true
@@ -104,9 +104,9 @@ module _ {g h : List ℕ} (c : Checked g) (w : ImpulsesWritten g h) where
   pub manifold_words_lem : (i m o : ℕ) → m < 6 → o < manifold_points
       → word_at h (contact_at h i + contact_manifolds + 1 + m * manifold_size + o) ≡ word_at g (contact_at g i + contact_manifolds + 1 + m * manifold_size + o)
   manifold_words_lem i m o a b =
-      ap (word_at h) (let e : contact_at h i + 36 + 1 + m * 81 + o ≡ contact_at h i + (37 + m * 81 + o) = omega arith in e)
-      ∙ record_word i (37 + m * 81 + o) (omega arith) (λ n k v p q s t u e. let z = same_offset 81 m n o (9 + k * 18 + v) (omega arith) (omega arith) (omega arith) in omega arith)
-      ∙ ap (word_at g) (let e : contact_at g i + (37 + m * 81 + o) ≡ contact_at g i + 36 + 1 + m * 81 + o = omega arith in e)
+      ap (word_at h) (let e : contact_at h i + contact_manifolds + 1 + m * manifold_size + o ≡ contact_at h i + (37 + m * manifold_size + o) = omega arith in e)
+      ∙ record_word i (37 + m * manifold_size + o) (omega arith) (λ n k v p q s t u e. let z = same_offset manifold_size m n o (9 + k * 18 + v) (omega arith) (omega arith) (omega arith) in omega arith)
+      ∙ ap (word_at g) (let e : contact_at g i + (37 + m * manifold_size + o) ≡ contact_at g i + contact_manifolds + 1 + m * manifold_size + o = omega arith in e)
 
   pub manifold_run : (i m : ℕ) → m < 6 → Same g (contact_at g i + contact_manifolds + 1 + m * manifold_size) h (contact_at h i + contact_manifolds + 1 + m * manifold_size) manifold_points
   manifold_run i m l = record { each = λ o b. manifold_words_lem i m o l b }
@@ -116,10 +116,10 @@ module _ {g h : List ℕ} (c : Checked g) (w : ImpulsesWritten g h) where
       → word_at h (contact_at h i + contact_manifolds + 1 + m * manifold_size + manifold_points + k * point_size + u)
       ≡ word_at g (contact_at g i + contact_manifolds + 1 + m * manifold_size + manifold_points + k * point_size + u)
   point_word i m k u a b l n =
-      ap (word_at h) (let e : contact_at h i + 36 + 1 + m * 81 + 9 + k * 18 + u ≡ contact_at h i + (stored_point_place m k + u) = omega arith in e)
+      ap (word_at h) (let e : contact_at h i + contact_manifolds + 1 + m * manifold_size + 9 + k * 18 + u ≡ contact_at h i + (stored_point_place m k + u) = omega arith in e)
       ∙ record_word i (stored_point_place m k + u) (omega arith)
       (λ m' k' v p q s t d e. let z = same_word m m' k k' u v b q l (omega arith) e in n (omega arith) (omega arith) (λ f. d (sym z ∙ f)))
-      ∙ ap (word_at g) (let e : contact_at g i + (stored_point_place m k + u) ≡ contact_at g i + 36 + 1 + m * 81 + 9 + k * 18 + u = omega arith in e)
+      ∙ ap (word_at g) (let e : contact_at g i + (stored_point_place m k + u) ≡ contact_at g i + contact_manifolds + 1 + m * manifold_size + 9 + k * 18 + u = omega arith in e)
 
   -- ---- the range
   pub fitting_kept : (i : ℕ) → Fitting g (contact_at g i) → Fitting h (contact_at h i)
@@ -130,9 +130,9 @@ module _ {g h : List ℕ} (c : Checked g) (w : ImpulsesWritten g h) where
         body1 = subst T (sym (optional_kept i 2 (omega arith))) f.body1;
         body2 = subst T (sym (optional_kept i 4 (omega arith))) f.body2;
         marks = λ k l. omega (arith, (first_run i 7 11 (lit≤ tt)).each k l, f.marks k l);
-        cache = omega (arith, first_words_lem i 20 (omega arith), f.cache);
-        manifolds = omega (arith, first_words_lem i 36 (omega arith), f.manifolds);
-        points = λ k l. let b : k < word_at g (contact_at g i + 36) = omega (arith, first_words_lem i 36 (omega arith)) in
+        cache = omega (arith, first_words_lem i contact_cache (omega arith), f.cache);
+        manifolds = omega (arith, first_words_lem i contact_manifolds (omega arith), f.manifolds);
+        points = λ k l. let b : k < word_at g (contact_at g i + contact_manifolds) = omega (arith, first_words_lem i contact_manifolds (omega arith)) in
             omega (arith, first_same (manifold_run i k (omega (arith, f.manifolds))) tt, f.points k b);
       }
 
@@ -251,7 +251,7 @@ module _ {g h : List ℕ} (c : Checked g) (w : ImpulsesWritten g h) where
         manifolds = manifolds_stripped i f j;
         count_change = int_of (first_words_lem i 18 (lit≤ tt) j);
         speculative = of_bits binary32 (first_words_lem i 19 (lit≤ tt) j);
-        cache = cache_same (first_run i 20 16 (lit≤ tt)) j;
+        cache = cache_same (first_run i contact_cache cache_size (lit≤ tt)) j;
       }
 
   pub impulses_graph : SameButImpulses (graph_of g) (graph_of h)

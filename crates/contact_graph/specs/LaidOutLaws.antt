@@ -17,6 +17,7 @@ use Rattle.contact_range.specs.Range.{right_length, counts_fit, listed_given, na
 use Rattle.contact_range.specs.RangeLaws.{shown}
 use Rattle.contact_graph.specs.Calls.{laid_out}
 use Rattle.manifold_records.specs.ListLaws.{length_zeros}
+use Rattle.rules.specs.Limits.{most_contacts}
 
 pub zeros_at : (n k : ℕ) → get_or (zeros n) k 0 ≡ 0
 unfolding zeros
@@ -24,7 +25,7 @@ zeros_at zero k = refl
 zeros_at (suc n) zero = refl
 zeros_at (suc n) (suc k) = zeros_at n k
 
-module _ (capacity : ℕ) (least : 0 < capacity) (most : capacity ≤ 256) where
+module _ (capacity : ℕ) (least : 0 < capacity) (most : capacity ≤ most_contacts) where
   abbrev laid : List ℕ
   laid = laid_out capacity
 
@@ -53,7 +54,7 @@ module _ (capacity : ℕ) (least : 0 < capacity) (most : capacity ≤ 256) where
   laid_right =
       rw (
         lt-ltb 0 (capacity_of laid) (omega (arith, laid_capacity)),
-        le-leb (capacity_of laid) 256 (omega (arith, laid_capacity)),
+        le-leb (capacity_of laid) most_contacts (omega (arith, laid_capacity)),
         eq-eqb (length laid) (graph_length (capacity_of laid)) (laid_length ∙ ap graph_length (sym laid_capacity)),
       )
 

@@ -8,23 +8,24 @@ use Rattle.layout.specs.Graph.{graph_length}
 use Rattle.contact_types.specs.declared.refusal.Refusal.TheVariants.{WrongLength}
 use Rattle.contact_graph.specs.Calls.{lay_out_refusal, laid_out}
 use Rattle.contact_graph.specs.Promises.{LaidOut}
+use Rattle.rules.specs.Limits.{most_contacts}
 
 module _ (g : List ℕ) (capacity : ℕ) where
   pub lay_out_none : capacity ≡ 0 → lay_out_refusal g capacity ≡ 1
   unfolding lay_out_refusal
   lay_out_none e = rw e
 
-  pub lay_out_many : 256 < capacity → lay_out_refusal g capacity ≡ 1
+  pub lay_out_many : most_contacts < capacity → lay_out_refusal g capacity ≡ 1
   unfolding lay_out_refusal
-  lay_out_many h = let p : 0 < capacity = omega arith in rw (lt-ltb 0 capacity p, lt-leb capacity 256 h)
+  lay_out_many h = let p : 0 < capacity = omega arith in rw (lt-ltb 0 capacity p, lt-leb capacity most_contacts h)
 
-  pub lay_out_length : 0 < capacity → capacity ≤ 256 → (length g ≡ graph_length capacity → ⊥) → lay_out_refusal g capacity ≡ 1
+  pub lay_out_length : 0 < capacity → capacity ≤ most_contacts → (length g ≡ graph_length capacity → ⊥) → lay_out_refusal g capacity ≡ 1
   unfolding lay_out_refusal
-  lay_out_length p h n = rw (lt-ltb 0 capacity p, le-leb capacity 256 h, ne_eqb (length g) (graph_length capacity) n)
+  lay_out_length p h n = rw (lt-ltb 0 capacity p, le-leb capacity most_contacts h, ne_eqb (length g) (graph_length capacity) n)
 
-  pub lay_out_done : 0 < capacity → capacity ≤ 256 → length g ≡ graph_length capacity → lay_out_refusal g capacity ≡ 0
+  pub lay_out_done : 0 < capacity → capacity ≤ most_contacts → length g ≡ graph_length capacity → lay_out_refusal g capacity ≡ 0
   unfolding lay_out_refusal
-  lay_out_done p h e = rw (lt-ltb 0 capacity p, le-leb capacity 256 h, eq-eqb (length g) (graph_length capacity) e)
+  lay_out_done p h e = rw (lt-ltb 0 capacity p, le-leb capacity most_contacts h, eq-eqb (length g) (graph_length capacity) e)
 
 set_zeros : (n capacity : ℕ) → 0 < n → set (zeros n) 0 capacity ≡ capacity ∷ zeros (n - 1)
 unfolding zeros

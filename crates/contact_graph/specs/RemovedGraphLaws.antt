@@ -12,7 +12,7 @@ use Rattle.manifold_records.specs.Counts.{Counted}
 use Rattle.manifold_records.specs.ListLaws.{map_upto_next, map_upto_same, get_d_map_upto, length_map_upto}
 use Rattle.contact_records.specs.ApartLaws.{names_same, edge_same, flags_same, manifolds_same, cache_same}
 use Rattle.contact_records.specs.HeldLaws.{Same}
-use Rattle.layout.specs.Contact.{contact_manifolds, contact_pair_index, contact_size}
+use Rattle.layout.specs.Contact.{cache_size, contact_cache, contact_manifolds, contact_pair_index, contact_size}
 use Rattle.contact_records.specs.Recorded.{int_of, names_at, pair_at}
 use Rattle.contact_range.specs.Recorded.{listed_count, free_count, listed_at, free_at, contact_at, graph_of}
 use Rattle.contact_range.specs.Range.{stands}
@@ -23,6 +23,7 @@ use Rattle.contact_graph.specs.EffectLaws.{RemoveEffect, remove_effect, same_or_
 use Rattle.contact_graph.specs.RemoveKeepsLaws.{remove_keeps}
 use Rattle.contact_graph.specs.CallLaws.{removal_room}
 use Rattle.contact_graph.specs.AddedGraphLaws.{right_kept, listed_pair, listed_counted}
+use Rattle.layout.specs.Manifold.{manifolds_size}
 
 pub removed_effect : {g : List ℕ} (id : ℕ) → Checked g → stands g id ≡ true → RemoveEffect g (removed_words g id) id (place_of g id) (listed_at g (listed_count g - 1))
 unfolding removed_words
@@ -49,10 +50,10 @@ module _ (xs : List ℕ) (a : ℕ) (ys : List ℕ) (b : ℕ) (same : (o : ℕ) �
         names = names_same id named i;
         edge = edge_same (run 7 2 (omega arith) (omega arith)) i;
         flags = flags_same (run 9 9 (omega arith) (omega arith)) i;
-        manifolds = manifolds_same c (run 36 487 (omega arith) (omega arith)) i;
+        manifolds = manifolds_same c (run contact_manifolds manifolds_size (omega arith) (omega arith)) i;
         count_change = int_of (same 18 (omega arith) (omega arith) i);
         speculative = of_bits binary32 (same 19 (omega arith) (omega arith) i);
-        cache = cache_same (run 20 16 (omega arith) (omega arith)) i;
+        cache = cache_same (run contact_cache cache_size (omega arith) (omega arith)) i;
       }
 
 -- ---- lists of pairs

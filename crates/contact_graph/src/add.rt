@@ -6,7 +6,7 @@ ghost use Rattle.layout.specs.Graph.{graph_given, graph_list};
 ghost use Rattle.rules.specs.Limits.{most_contacts};
 ghost use Rattle.manifold_records.specs.Written.{zeros};
 ghost use Rattle.contact_graph.specs.Adding.{AddedNew};
-ghost use Rattle.contact_graph.specs.Calls.{body_fits, body_word, request_fits, addition_of, pair_stands, new_id_of};
+ghost use Rattle.contact_graph.specs.Calls.{body_word, request_fits, addition_of, stands_at, pair_stands, new_id_of};
 ghost use Rattle.contact_range.specs.Checked.{Checked};
 ghost use Rattle.contact_graph.specs.Promises.{Added};
 ghost use Rattle.contact_range.specs.Range.{same_colliders};
@@ -21,44 +21,23 @@ use data_structures::pair_key::PairKey;
 use layout::contact::{CONTACT_CACHE, CONTACT_COLLIDER2, CONTACT_SIZE};
 use layout::graph::{GRAPH_CAPACITY, GRAPH_FREED, GRAPH_GIVEN, GRAPH_LIST, GRAPH_LISTED};
 use layout::limits::{BODIES, COLLIDERS};
+use manifold_records::zeros::store_zeros;
 use math::bits::bits_of;
 use words::load::load;
-use words::row::store_words;
+use words::row::{store_words, where_set};
 use words::store::store;
 
-// A mark, and behind a mark of 1 a body's number.
-fn body_fits(mark: u32, body: u32) -> bool
-    ensures { result ≡ body_fits mark body }
-{
-    if 2 <= mark {
-        return false;
-    }
-    if mark == 1 {
-        return body < BODIES;
-    }
-    true
-}
-
 // Refusal 2 has nothing to say of the request.
+#[tactic(auto, unfolding(crate::specs::Calls::request_fits))]
 fn request_fits(a: Request) -> bool
     ensures { result ≡ request_fits a }
 {
-    if COLLIDERS <= a.collider1 {
-        return false;
-    }
-    if COLLIDERS <= a.collider2 {
-        return false;
-    }
-    if !body_fits(a.has_body1, a.body1) {
-        return false;
-    }
-    if !body_fits(a.has_body2, a.body2) {
-        return false;
-    }
-    if 2 <= a.contact_events {
-        return false;
-    }
-    a.modify_contacts < 2
+    a.collider1 < COLLIDERS
+        && a.collider2 < COLLIDERS
+        && where_set(a.has_body1, a.body1 < BODIES)
+        && where_set(a.has_body2, a.body2 < BODIES)
+        && a.contact_events < 2
+        && a.modify_contacts < 2
 }
 
 // The same two colliders, in either order.
@@ -68,25 +47,24 @@ pub fn same_colliders(a: u32, b: u32, c: u32, d: u32) -> bool
     PairKey::new(a, b) == PairKey::new(c, d)
 }
 
+// The pair at a place of the list is that pair.
+fn stands_at(graph: &[u32], p: usize, a: u32, b: u32) -> bool
+    requires { Checked graph.now × (p < listed_count graph.now) }
+    ensures { result ≡ stands_at graph.now a b p }
+{
+    let at = contact_at(graph, id_at(graph, GRAPH_LIST + p));
+    let collider1 = load::<u32>(graph, at);
+    let collider2 = load::<u32>(graph, at + CONTACT_COLLIDER2);
+    same_colliders(a, b, collider1, collider2)
+}
+
 // The pair stands already.
 fn pair_stands(graph: &[u32], a: u32, b: u32) -> bool
     requires { Checked graph.now }
     ensures { result ≡ pair_stands graph.now a b }
 {
     let listed = load::<usize>(graph, GRAPH_LISTED);
-    for p in 0..listed {
-        let id = id_at(graph, GRAPH_LIST + p);
-        let at = contact_at(graph, id);
-        if same_colliders(
-            a,
-            b,
-            load::<u32>(graph, at),
-            load::<u32>(graph, at + CONTACT_COLLIDER2),
-        ) {
-            return true;
-        }
-    }
-    false
+    (0..listed).any(|p| stands_at(graph, p, a, b))
 }
 
 // The id freed last, else the lowest never given.
@@ -145,9 +123,8 @@ fn store_new(graph: &mut [u32], at: usize, a: Request, index: u32)
     requires { (request_fits a ≡ true) × (at + contact_size ≤ length graph.old) }
     ensures { graph.new ≡ put graph.old at (new_contact_words index (addition_of a) ++ zeros (contact_size - contact_cache)) }
 {
-    let blank = [0u32; CONTACT_SIZE];
     let head = new_words(a, index);
-    store_words(graph, at, &blank);
+    store_zeros(graph, at, CONTACT_SIZE);
     store_words(graph, at, &head);
 }
 
@@ -180,6 +157,7 @@ fn add_new(graph: &mut [u32], a: Request) -> ContactId
     requires { Checked graph.old × (request_fits a ≡ true) × (listed_count graph.old < capacity_of graph.old) }
     ensures { AddedNew graph.old a graph.new result }
 {
+    // The form that the specification names: the edge is made with the placeholder, and named once its id and its place are known.
     let mut edge = ContactEdge::new(a.collider1, a.collider2);
     let new = new_id(graph);
     let given = load::<u32>(graph, GRAPH_GIVEN);

@@ -98,9 +98,5 @@ pub fn has_contact(graph: &[u32], id: ContactId) -> bool
     requires { Checked graph.now }
     ensures { result ≡ stands graph.now id.0 }
 {
-    let given = load::<usize>(graph, GRAPH_GIVEN);
-    if given <= id.0 as usize {
-        return false;
-    }
-    is_standing(graph, id)
+    id.0 < load::<u32>(graph, GRAPH_GIVEN) && is_standing(graph, id)
 }

@@ -1,7 +1,7 @@
 // One damage: the answers of `look_up`, `add` and `remove`, and whether every word is as it was before them.
 use crate::graph::{build, request};
 use crate::places::{GRAPH_LENGTH, LARGEST};
-use case_draws::line::{Id, print_answer};
+use case_draws::line::{print_added, print_answer, print_done};
 use case_draws::places::put;
 use contact_graph::add::add;
 use contact_graph::call::ContactEdge;
@@ -28,12 +28,9 @@ impl fmt::Display for Edge {
 }
 
 fn print_answers<W: Write>(out: &mut W, graph: &mut [u32]) -> io::Result<()> {
-    let found = look_up(graph, ContactId(0));
-    print_answer(out, found.map(|e| Edge(e)).map_err(|r| r.number()))?;
-    let added = add(graph, request(70, 80, 1));
-    print_answer(out, added.map(|id| Id(id.0)).map_err(|r| r.number()))?;
-    let removed = remove(graph, ContactId(0));
-    print_answer(out, removed.map(|()| "done").map_err(|r| r.number()))
+    print_answer(out, look_up(graph, ContactId(0)).map(|e| Edge(e)))?;
+    print_added(out, add(graph, request(70, 80, 1)))?;
+    print_done(out, remove(graph, ContactId(0)))
 }
 
 fn damage(graph: &mut [u32], changes: &[(u32, u32)], filled: Range<u32>) {

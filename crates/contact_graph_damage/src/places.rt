@@ -114,4 +114,4 @@ pub const LAST_COLLIDER: u32 = COLLIDERS - 1;
 
 pub const LAST_BODY: u32 = BODIES - 1;
 
-pub const LARGEST: u32 = 0xffff_ffff;
+pub const LARGEST: u32 = u32::MAX;

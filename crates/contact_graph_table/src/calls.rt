@@ -1,7 +1,7 @@
 // 600 calls on a graph of capacity 8: fifty with more additions, fifty with more removals, and so on.
 use crate::draws::{draw, id, request};
 use crate::recorded::print_recorded;
-use case_draws::line::{Id, print_answer};
+use case_draws::line::{print_added, print_answer, print_done};
 use case_draws::numbers::{GRAPH_CONTACT_SIZE, GRAPH_LIST};
 use contact_graph::add::add;
 use contact_graph::call::{ContactEdge, Request};
@@ -9,7 +9,6 @@ use contact_graph::lay_out::lay_out;
 use contact_graph::look_up::look_up;
 use contact_graph::remove::remove;
 use contact_types::contact_id::ContactId;
-use contact_types::refusal::Refusal;
 use math::bits::bits_of;
 use std::io::Write;
 use std::{fmt, io};
@@ -17,14 +16,6 @@ use std::{fmt, io};
 const CAPACITY: u32 = 8;
 
 const GRAPH_LENGTH: usize = (GRAPH_LIST + GRAPH_CONTACT_SIZE * CAPACITY) as usize;
-
-pub fn print_done<W: Write>(out: &mut W, answer: Result<(), Refusal>) -> io::Result<()> {
-    print_answer(out, answer.map(|()| "done").map_err(|r| r.number()))
-}
-
-pub fn print_added<W: Write>(out: &mut W, answer: Result<ContactId, Refusal>) -> io::Result<()> {
-    print_answer(out, answer.map(|id| Id(id.0)).map_err(|r| r.number()))
-}
 
 // A body's number, or that there is none.
 #[derive(Clone, Copy)]
@@ -85,8 +76,7 @@ fn print_remove<W: Write>(out: &mut W, graph: &mut [u32], id: u32) -> io::Result
 
 fn print_look_up<W: Write>(out: &mut W, graph: &[u32], id: u32) -> io::Result<()> {
     write!(out, "look_up\t{id}")?;
-    let found = look_up(graph, ContactId(id));
-    print_answer(out, found.map(|e| Edge(e)).map_err(|r| r.number()))
+    print_answer(out, look_up(graph, ContactId(id)).map(|e| Edge(e)))
 }
 
 // How many of ten calls are additions, removals, look ups: 6, 2, 2 or 2, 6, 2.

@@ -1,10 +1,9 @@
 // What a graph records: the ids given, the numbers listed and free, the listed ids and the free ones in order, and a sum
 // over the listed contacts' records. A word behind a mark of 0 is not recorded: the sum has 0 for it.
-use case_draws::graph::{free_place, listed, listed_id, record};
+use case_draws::graph::{free_ids, listed_ids, record};
 use case_draws::numbers::{
     CONTACT_BODY1, CONTACT_BODY1_NUMBER, CONTACT_BODY2, CONTACT_BODY2_NUMBER, CONTACT_CACHE,
-    CONTACT_CACHED, CONTACT_FIRST_MANIFOLD, CONTACT_MANIFOLDS, GRAPH_FREED, GRAPH_GIVEN,
-    GRAPH_LIST,
+    CONTACT_CACHED, CONTACT_FIRST_MANIFOLD, CONTACT_MANIFOLDS, GRAPH_GIVEN,
 };
 use case_draws::places::word;
 use std::io;
@@ -24,8 +23,8 @@ fn recorded_word(record: &[u32], k: u32) -> u32 {
 // Of each record as far as the number of manifolds.
 fn records_sum(graph: &[u32]) -> u32 {
     let mut sum: u32 = 0;
-    for p in 0..listed(graph) {
-        let record = record(graph, listed_id(graph, p));
+    for &id in listed_ids(graph) {
+        let record = record(graph, id);
         for k in 0..CONTACT_FIRST_MANIFOLD {
             sum = sum
                 .wrapping_add(recorded_word(record, k))
@@ -36,9 +35,9 @@ fn records_sum(graph: &[u32]) -> u32 {
     sum
 }
 
-fn print_ids<W: Write>(out: &mut W, graph: &[u32], from: u32, count: u32) -> io::Result<()> {
-    for k in 0..count {
-        write!(out, "\t{}", word(graph, from.wrapping_add(k)))?;
+fn print_ids<W: Write>(out: &mut W, ids: &[u32]) -> io::Result<()> {
+    for id in ids {
+        write!(out, "\t{id}")?;
     }
     Ok(())
 }
@@ -46,11 +45,12 @@ fn print_ids<W: Write>(out: &mut W, graph: &[u32], from: u32, count: u32) -> io:
 // The end of a line.
 pub fn print_recorded<W: Write>(out: &mut W, graph: &[u32]) -> io::Result<()> {
     let given = word(graph, GRAPH_GIVEN);
-    let listed = listed(graph);
-    let freed = word(graph, GRAPH_FREED);
-    write!(out, "\tgraph\t{given}\t{listed}\t{freed}\tlist")?;
-    print_ids(out, graph, GRAPH_LIST, listed)?;
+    let listed = listed_ids(graph);
+    let free = free_ids(graph);
+    write!(out, "\tgraph\t{given}\t{}\t{}", listed.len(), free.len())?;
+    write!(out, "\tlist")?;
+    print_ids(out, listed)?;
     write!(out, "\tfree")?;
-    print_ids(out, graph, free_place(graph), freed)?;
+    print_ids(out, free)?;
     writeln!(out, "\trecords\t{}", records_sum(graph))
 }

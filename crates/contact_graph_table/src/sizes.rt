@@ -1,5 +1,5 @@
 // Capacities and lengths that are refused, and a graph of the largest capacity filled to the last contact.
-use crate::calls::{print_added, print_done};
+use case_draws::line::{print_added, print_done};
 use case_draws::numbers::{GRAPH_CONTACT_SIZE, GRAPH_LIST, MOST_CONTACTS};
 use contact_graph::add::add;
 use contact_graph::call::Request;
@@ -70,14 +70,10 @@ fn nth(c: u32) -> Request {
 }
 
 // How many additions are accepted: all but one of those that there is room for.
-fn fill(graph: &mut [u32]) -> u32 {
-    let mut count = 0;
-    for c in 0..ALMOST_ALL {
-        if add(graph, nth(c)).is_ok() {
-            count += 1;
-        }
-    }
-    count
+fn fill(graph: &mut [u32]) -> usize {
+    (0..ALMOST_ALL)
+        .filter(|&c| add(graph, nth(c)).is_ok())
+        .count()
 }
 
 pub fn print_full<W: Write>(out: &mut W) -> io::Result<()> {

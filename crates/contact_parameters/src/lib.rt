@@ -3,6 +3,7 @@
 #![tactic(auto)]
 
 pub mod distance;
+pub mod pair;
 pub mod recycling;
 pub mod renewing;
 pub mod surface;

@@ -1,6 +1,6 @@
 // Whether a pair's contacts are recycled, and how: rules 4 and 5. The recycle block of avian's `update_contacts`.
-// The sides a and b stay two arguments: each function asks something of each, and a struct of both would be taken apart in all of them.
-ghost use Rattle.std.specs.Prelude.{◌≡◌};
+// The two sides are two arguments and no `OverlappingPair`: no collider is looked at.
+ghost use Rattle.std.specs.Prelude.{◌≡◌, cond, None};
 ghost use Rattle.rules.specs.Recycling.{scaled_tolerance, scaled_recycle, tolerance_for, radius, least_squared_dot, squared_motion, arc, recycles};
 ghost use Rattle.contact_parameters.specs.Motions.{motion_of};
 ghost use Rattle.collider.specs.Views.{plain_settings, plain_side};
@@ -15,28 +15,28 @@ use math::root::root;
 use math::vec::Vec3;
 
 #[tactic(auto, unfolding(rules::specs::Recycling::scaled_tolerance))]
-pub fn scaled_tolerance(s: Settings) -> f32
-    ensures { result ≡ scaled_tolerance (plain_settings s) }
+pub fn scaled_tolerance(settings: Settings) -> f32
+    ensures { result ≡ scaled_tolerance (plain_settings settings) }
 {
-    s.length_unit * s.contact_tolerance
+    settings.length_unit * settings.contact_tolerance
 }
 
 #[tactic(auto, unfolding(rules::specs::Recycling::scaled_recycle))]
-pub fn scaled_recycle(s: Settings) -> f32
-    ensures { result ≡ scaled_recycle (plain_settings s) }
+pub fn scaled_recycle(settings: Settings) -> f32
+    ensures { result ≡ scaled_recycle (plain_settings settings) }
 {
-    s.length_unit * s.recycle_distance
+    settings.length_unit * settings.recycle_distance
 }
 
 // A pair that does not touch is held to the contact tolerance too.
 #[tactic(auto, unfolding(rules::specs::Recycling::tolerance_for))]
-fn tolerance_for(s: Settings, touching: bool) -> f32
-    ensures { result ≡ tolerance_for (plain_settings s) touching }
+fn tolerance_for(settings: Settings, touching: bool) -> f32
+    ensures { result ≡ tolerance_for (plain_settings settings) touching }
 {
     if touching {
-        return scaled_recycle(s);
+        return scaled_recycle(settings);
     }
-    minimum(scaled_recycle(s), scaled_tolerance(s))
+    minimum(scaled_recycle(settings), scaled_tolerance(settings))
 }
 
 // A static body sweeps nothing.
@@ -48,57 +48,63 @@ fn sweep(a: Side) -> f32
 }
 
 #[tactic(auto, unfolding(rules::specs::Recycling::least_squared_dot))]
-fn least_squared_dot(a: Side, b: Side, k: ContactRecyclingCache) -> f32
-    ensures { result ≡ least_squared_dot (plain_side a) (plain_side b) (cached_of k) }
+fn least_squared_dot(a: Side, b: Side, cache: ContactRecyclingCache) -> f32
+    ensures { result ≡ least_squared_dot (plain_side a) (plain_side b) (cached_of cache) }
 {
-    let angle1 = a.pose.rotation.dot(k.rotation1);
-    let angle2 = b.pose.rotation.dot(k.rotation2);
+    let angle1 = a.pose.rotation.dot(cache.rotation1);
+    let angle2 = b.pose.rotation.dot(cache.rotation2);
     minimum(angle1 * angle1, angle2 * angle2)
 }
 
 #[tactic(auto, unfolding(rules::specs::Recycling::squared_motion))]
-fn squared_motion(a: Side, b: Side, k: ContactRecyclingCache) -> f32
-    ensures { result ≡ squared_motion (plain_side a) (plain_side b) (cached_of k) }
+fn squared_motion(a: Side, b: Side, cache: ContactRecyclingCache) -> f32
+    ensures { result ≡ squared_motion (plain_side a) (plain_side b) (cached_of cache) }
 {
     let relative = a.pose.relative(b.pose);
-    relative.position.distance_squared(k.relative_translation)
+    relative
+        .position
+        .distance_squared(cache.relative_translation)
 }
 
 #[tactic(auto, unfolding(rules::specs::Recycling::arc))]
-fn arc_length(a: Side, b: Side, k: ContactRecyclingCache) -> f32
-    ensures { result ≡ arc (plain_side a) (plain_side b) (cached_of k) }
+fn arc_length(a: Side, b: Side, cache: ContactRecyclingCache) -> f32
+    ensures { result ≡ arc (plain_side a) (plain_side b) (cached_of cache) }
 {
     let relative = a.pose.relative(b.pose);
-    let delta = k.relative_rotation.inverse().mul_quat(relative.rotation);
+    let delta = cache
+        .relative_rotation
+        .inverse()
+        .mul_quat(relative.rotation);
     delta.chord_length() * maximum(sweep(a), sweep(b))
 }
 
-// Each test that holds abandons recycling. A NaN abandons nothing.
+// The cache, where the pair's contacts are recycled. Each test that holds abandons recycling. A NaN abandons nothing.
 #[tactic(auto, unfolding(rules::specs::Recycling::recycles))]
 pub fn recycle(
-    s: Settings,
+    settings: Settings,
     touching: bool,
     a: Side,
     b: Side,
     cache: Option<ContactRecyclingCache>,
-) -> bool
-    ensures { result ≡ recycles (plain_settings s) touching (plain_side a) (plain_side b) (cache_of cache) }
+) -> Option<ContactRecyclingCache>
+    ensures { result ≡ cond (recycles (plain_settings settings) touching (plain_side a) (plain_side b) (cache_of cache)) cache None }
 {
-    if scaled_recycle(s) <= 0.0 {
-        return false;
+    if scaled_recycle(settings) <= 0.0 {
+        return None;
     }
-    let Some(k) = cache else {
-        return false;
-    };
-    if least_squared_dot(a, b, k) <= s.recycle_cosine {
-        return false;
+    let cached = cache?;
+    if least_squared_dot(a, b, cached) <= settings.recycle_cosine {
+        return None;
     }
-    let tolerance = tolerance_for(s, touching);
-    let squared = squared_motion(a, b, k);
+    let tolerance = tolerance_for(settings, touching);
+    let squared = squared_motion(a, b, cached);
     if squared >= tolerance * tolerance {
-        return false;
+        return None;
     }
-    !(arc_length(a, b, k) >= tolerance - root(squared))
+    if arc_length(a, b, cached) >= tolerance - root(squared) {
+        return None;
+    }
+    cache
 }
 
 // How far the two bodies have turned and moved since the cache was made: once for a pair.
@@ -111,11 +117,11 @@ pub struct Motion {
 }
 
 #[tactic(auto, unfolding(crate::specs::Motions::motion_of))]
-pub fn motion_of(a: Side, b: Side, k: ContactRecyclingCache) -> Motion
-    ensures { result ≡ motion_of (plain_side a) (plain_side b) (cached_of k) }
+pub fn motion_of(a: Side, b: Side, cache: ContactRecyclingCache) -> Motion
+    ensures { result ≡ motion_of (plain_side a) (plain_side b) (cached_of cache) }
 {
-    let delta1 = a.pose.rotation.mul_quat(k.rotation1.inverse());
-    let delta2 = b.pose.rotation.mul_quat(k.rotation2.inverse());
+    let delta1 = a.pose.rotation.mul_quat(cache.rotation1.inverse());
+    let delta2 = b.pose.rotation.mul_quat(cache.rotation2.inverse());
     let centres = b.world_com - a.world_com;
     let positions = b.pose.position - a.pose.position;
     Motion {

@@ -5,9 +5,8 @@ ghost use Rattle.collider.specs.Views.{plain_settings, plain_collider, plain_sid
 ghost use Rattle.contact_parameters.specs.Views.{plain_surface};
 
 use crate::distance::effective_speculative;
-use collider::collider_record::ColliderRecord;
+use crate::pair::OverlappingPair;
 use collider::settings::Settings;
-use collider::side::Side;
 use collider::surface::{combine, friction_of, margin_of, restitution_of};
 
 #[derive(Clone, Copy)]
@@ -21,24 +20,17 @@ pub struct Surface {
 }
 
 #[tactic(auto, unfolding(rules::specs::Surface::surface_of))]
-pub fn surface_of(
-    s: Settings,
-    c1: ColliderRecord,
-    c2: ColliderRecord,
-    a: Side,
-    b: Side,
-    given: f32,
-) -> Surface
-    ensures { plain_surface result ≡ surface_of (plain_settings s) (plain_collider c1) (plain_collider c2) (plain_side a) (plain_side b) given }
+pub fn surface_of(settings: Settings, pair: OverlappingPair, given: f32) -> Surface
+    ensures { plain_surface result ≡ surface_of (plain_settings settings) (plain_collider pair.c1) (plain_collider pair.c2) (plain_side pair.a) (plain_side pair.b) given }
 {
-    let friction1 = friction_of(s, c1, a);
-    let friction2 = friction_of(s, c2, b);
-    let restitution1 = restitution_of(s, c1);
-    let restitution2 = restitution_of(s, c2);
+    let friction1 = friction_of(settings, pair.c1, pair.a);
+    let friction2 = friction_of(settings, pair.c2, pair.b);
+    let restitution1 = restitution_of(settings, pair.c1);
+    let restitution2 = restitution_of(settings, pair.c2);
     Surface {
         friction: combine(friction1, friction2),
         restitution: combine(restitution1, restitution2),
-        margins: margin_of(c1, a) + margin_of(c2, b),
-        effective_speculative: effective_speculative(s, a, b, given),
+        margins: margin_of(pair.c1, pair.a) + margin_of(pair.c2, pair.b),
+        effective_speculative: effective_speculative(settings, pair.a, pair.b, given),
     }
 }

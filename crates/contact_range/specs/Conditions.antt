@@ -1,6 +1,6 @@
 -- What the range test's parts know and answer: refusal 1, then refusal 2 condition by condition. Definitions only.
 use Rattle.std.specs.Prelude.{◌≡◌, Bool, true, false, cond, ◌&&◌, List, ℕ, ◌+◌, ◌*◌, ◌≤◌, ◌<◌, ltb, length}
-use Rattle.rules.specs.Limits.{most_contacts}
+use Rattle.rules.specs.Limits.{colliders, most_contacts}
 use Rattle.words.specs.Words.{word_at}
 use Rattle.layout.specs.Contact.{contact_pair_index, contact_size}
 use Rattle.layout.specs.Graph.{graph_length}
@@ -54,7 +54,6 @@ pub record FreeTaken (g bits : List ℕ) : Type 0 where
 -- what `free_once` leaves
 pub record FreeMarked (g bits : List ℕ) (r : Bool) : Type 0 where
   pub answer : r ≡ free_once g
-  pub size : length bits ≡ 4
   pub marks : r ≡ true → FreeTaken g bits
 
 -- ---- the conditions of the list, and of the free ids
@@ -70,4 +69,4 @@ pair_blocks = 1024
 
 -- a number for a pair of colliders: the lower one times 256, and the higher
 abbrev pub pair_number : ℕ → ℕ → ℕ
-pair_number a b = cond (ltb a b) (a * 256 + b) (b * 256 + a)
+pair_number a b = cond (ltb a b) (a * colliders + b) (b * colliders + a)

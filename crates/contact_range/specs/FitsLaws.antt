@@ -7,7 +7,7 @@ use Rattle.rules.specs.Limits.{stored_points, pair_manifolds, colliders, bodies}
 use Rattle.rules.specs.Numbers.{every}
 use Rattle.rule_laws.specs.NumberLaws.{every_same}
 use Rattle.words.specs.Words.{word_at}
-use Rattle.layout.specs.Contact.{contact_cache, contact_edge_flags, contact_manifolds, contact_pair_index, contact_size}
+use Rattle.layout.specs.Contact.{contact_cache, contact_edge_flags, contact_manifolds, contact_pair_index, contact_size, marks_size}
 use Rattle.layout.specs.Manifold.{manifold_size}
 use Rattle.contact_range.specs.Range.{is_mark, optional_fits, names_fit, marks_fit, manifolds_fit, contact_fits}
 
@@ -37,8 +37,8 @@ module _ (g : List ℕ) (a : ℕ) (h : List ℕ) (b : ℕ) (same : (o : ℕ) →
   unfolding marks_fit
   marks_same =
       ap (λ (t : Bool). t && is_mark (word_at h (b + contact_cache)))
-      (every_same (λ k. is_mark (word_at h (b + contact_edge_flags + k))) (λ k. is_mark (word_at g (a + contact_edge_flags + k))) 11 (λ k l. ap is_mark (at contact_edge_flags k (omega arith) (omega arith))))
-      ∙ ap (λ (w : ℕ). every (λ k. is_mark (word_at g (a + contact_edge_flags + k))) 11 && is_mark w) (same contact_cache (omega arith) (omega arith))
+      (every_same (λ k. is_mark (word_at h (b + contact_edge_flags + k))) (λ k. is_mark (word_at g (a + contact_edge_flags + k))) marks_size (λ k l. ap is_mark (at contact_edge_flags k (omega arith) (omega arith))))
+      ∙ ap (λ (w : ℕ). every (λ k. is_mark (word_at g (a + contact_edge_flags + k))) marks_size && is_mark w) (same contact_cache (omega arith) (omega arith))
 
   abbrev counts : List ℕ → ℕ → ℕ → Bool
   counts xs from n = every (λ k. leb (word_at xs (from + contact_manifolds + 1 + k * manifold_size)) stored_points) n
@@ -47,10 +47,10 @@ module _ (g : List ℕ) (a : ℕ) (h : List ℕ) (b : ℕ) (same : (o : ℕ) →
   counted n false e = refl
   counted n true e =
       let few = leb-true n pair_manifolds e in
-      every_same (λ k. leb (word_at h (b + 36 + 1 + k * 81)) stored_points) (λ k. leb (word_at g (a + 36 + 1 + k * 81)) stored_points) n
+      every_same (λ k. leb (word_at h (b + contact_manifolds + 1 + k * manifold_size)) stored_points) (λ k. leb (word_at g (a + contact_manifolds + 1 + k * manifold_size)) stored_points) n
       (λ k l. ap (λ (w : ℕ). leb w stored_points)
-      (ap (word_at h) (let z : b + 36 + 1 + k * 81 ≡ b + 36 + (1 + k * 81) = omega arith in z) ∙ at 36 (1 + k * 81) (omega arith) (omega arith)
-      ∙ ap (word_at g) (let z : a + 36 + (1 + k * 81) ≡ a + 36 + 1 + k * 81 = omega arith in z)))
+      (ap (word_at h) (let z : b + contact_manifolds + 1 + k * manifold_size ≡ b + contact_manifolds + (1 + k * manifold_size) = omega arith in z) ∙ at contact_manifolds (1 + k * manifold_size) (omega arith) (omega arith)
+      ∙ ap (word_at g) (let z : a + contact_manifolds + (1 + k * manifold_size) ≡ a + contact_manifolds + 1 + k * manifold_size = omega arith in z)))
 
   manifolds_same : manifolds_fit h b ≡ manifolds_fit g a
   unfolding manifolds_fit

@@ -9,7 +9,7 @@ use Rattle.rules.specs.Limits.{stored_points, pair_manifolds, colliders, bodies,
 use Rattle.rules.specs.Numbers.{every}
 use Rattle.rule_laws.specs.NumberLaws.{every_at, any_at, any_found}
 use Rattle.words.specs.Words.{word_at}
-use Rattle.layout.specs.Contact.{contact_body1, contact_body2, contact_cache, contact_edge_flags, contact_manifolds}
+use Rattle.layout.specs.Contact.{contact_body1, contact_body2, contact_cache, contact_edge_flags, contact_manifolds, marks_size}
 use Rattle.layout.specs.Graph.{graph_length}
 use Rattle.layout.specs.Manifold.{manifold_size}
 use Rattle.contact_range.specs.Recorded.{capacity_of, given_of, listed_count, free_count, listed_at, free_at, contact_at}
@@ -166,7 +166,7 @@ pub record Fitting (g : List ℕ) (at : ℕ) : Type 0 where
   pub collider2 : word_at g (at + 1) < colliders
   pub body1 : T (optional_fits bodies g (at + contact_body1))
   pub body2 : T (optional_fits bodies g (at + contact_body2))
-  pub marks : (k : ℕ) → k < 11 → word_at g (at + contact_edge_flags + k) < 2
+  pub marks : (k : ℕ) → k < marks_size → word_at g (at + contact_edge_flags + k) < 2
   pub cache : word_at g (at + contact_cache) < 2
   pub manifolds : word_at g (at + contact_manifolds) ≤ pair_manifolds
   pub points : (k : ℕ) → k < word_at g (at + contact_manifolds) → word_at g (at + contact_manifolds + 1 + k * manifold_size) ≤ stored_points
@@ -182,13 +182,13 @@ names_fit_lem g at e =
     let r = rest_of (a && b) (c && d) e in
     (ltb-true (word_at g at) colliders (first_of_lem a b l), ltb-true (word_at g (at + 1)) colliders (rest_of a b l), shown (first_of_lem c d r), shown (rest_of c d r))
 
-marks_fit_lem : (g : List ℕ) (at : ℕ) → marks_fit g at ≡ true → ((k : ℕ) → k < 11 → word_at g (at + contact_edge_flags + k) < 2) × (word_at g (at + contact_cache) < 2)
+marks_fit_lem : (g : List ℕ) (at : ℕ) → marks_fit g at ≡ true → ((k : ℕ) → k < marks_size → word_at g (at + contact_edge_flags + k) < 2) × (word_at g (at + contact_cache) < 2)
 unfolding marks_fit
 marks_fit_lem g at e =
     let f : ℕ → Bool = λ k. ltb (word_at g (at + contact_edge_flags + k)) 2 in
     let c = ltb (word_at g (at + contact_cache)) 2 in (
-      λ k h. ltb-true (word_at g (at + contact_edge_flags + k)) 2 (every_at f 11 k (first_of_lem (every f 11) c e) h),
-      ltb-true (word_at g (at + contact_cache)) 2 (rest_of (every f 11) c e),
+      λ k h. ltb-true (word_at g (at + contact_edge_flags + k)) 2 (every_at f marks_size k (first_of_lem (every f marks_size) c e) h),
+      ltb-true (word_at g (at + contact_cache)) 2 (rest_of (every f marks_size) c e),
     )
 
 manifolds_fit_lem : (g : List ℕ) (at : ℕ) → manifolds_fit g at ≡ true

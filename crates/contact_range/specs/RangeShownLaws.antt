@@ -7,7 +7,7 @@ use borrow.Author.Tests.{lt-ltb, le-leb, eq-eqb, ne_eqb}
 use Rattle.rules.specs.Limits.{stored_points, pair_manifolds, colliders, bodies, most_contacts}
 use Rattle.rule_laws.specs.NumberLaws.{every_all}
 use Rattle.words.specs.Words.{word_at}
-use Rattle.layout.specs.Contact.{contact_body1, contact_body2, contact_cache, contact_edge_flags, contact_manifolds}
+use Rattle.layout.specs.Contact.{contact_body1, contact_body2, contact_cache, contact_edge_flags, contact_manifolds, marks_size}
 use Rattle.layout.specs.Manifold.{manifold_size}
 use Rattle.contact_range.specs.Recorded.{capacity_of, given_of, listed_count, free_count, listed_at, free_at, contact_at}
 use Rattle.contact_range.specs.Range.{right_length, is_mark, optional_fits, names_fit, marks_fit, manifolds_fit, contact_fits, counts_fit, listed_given, names_back, contacts_fit, free_given, free_once, stands, is_free, free_apart, given_known, same_pair, pairs_once, InRange}
@@ -36,7 +36,7 @@ fitting_test {g} {at} f =
       lt-ltb (word_at g (at + 1)) colliders f.collider2,
       holds (optional_fits bodies g (at + contact_body1)) f.body1,
       holds (optional_fits bodies g (at + contact_body2)) f.body2,
-      every_all (λ k. is_mark (word_at g (at + contact_edge_flags + k))) 11 (λ k h. lt-ltb _ _ (f.marks k h)),
+      every_all (λ k. is_mark (word_at g (at + contact_edge_flags + k))) marks_size (λ k h. lt-ltb _ _ (f.marks k h)),
       lt-ltb (word_at g (at + contact_cache)) 2 f.cache,
       le-leb (word_at g n) pair_manifolds f.manifolds,
     ) (every_all (λ k. leb (points k) stored_points) (word_at g n) (λ k h. le-leb (points k) stored_points (f.points k h)))

@@ -111,9 +111,9 @@ every_not t (suc n) = ap (λ (b : Bool). b && not (t n)) (every_not t n) ∙ tur
 pub fresh : (f : ℕ → ℕ) (k : ℕ) {bits : List ℕ} → Marked f k bits → every (λ j. not (eqb (f j) (f k))) k ≡ not (bit_at bits (f k))
 fresh f k m = every_not (λ j. eqb (f j) (f k)) k ∙ ap not (sym (m.each (f k)))
 
--- a turn of a loop that asks the bit of the number at k, and sets it
-pub seen : (f : ℕ → ℕ) (k : ℕ) {bits : List ℕ} {n : ℕ} {r : Bool} → Marked f k bits → n ≡ f k → r ≡ bit_at bits n → every (λ j. not (eqb (f j) (f k))) k ≡ not r
-seen f k {bits} m e h = fresh f k m ∙ ap not (ap (bit_at bits) (sym e) ∙ sym h)
+-- a turn of a loop that sets the bit of the number at k, and answers whether it was not set before
+pub fresh_at : (f : ℕ → ℕ) (k : ℕ) {bits : List ℕ} {n : ℕ} {r : Bool} → Marked f k bits → n ≡ f k → r ≡ not (bit_at bits n) → every (λ j. not (eqb (f j) (f k))) k ≡ r
+fresh_at f k {bits} m e h = fresh f k m ∙ ap not (ap (bit_at bits) (sym e)) ∙ sym h
 
 pub marks_next : (f : ℕ → ℕ) (k : ℕ) {bits after : List ℕ} {n : ℕ} → Marked f k bits → n ≡ f k → n < 64 * length bits → after ≡ marked bits n → Marked f (k + 1) after
 marks_next f k {bits} {after} {n} m e h s =
@@ -171,17 +171,17 @@ contacts_known g e =
 abbrev pub place_number : List ℕ → ℕ → ℕ
 place_number g p = pair_number (word_at g (contact_at g (listed_at g p))) (word_at g (contact_at g (listed_at g p) + 1))
 
-pub number_below : (a b : ℕ) → a < colliders → b < colliders → pair_number a b < 65536
+pub number_below : (a b : ℕ) → a < colliders → b < colliders → pair_number a b < colliders * colliders
 number_below a b h l = go (ltb a b)
   where
-    go : (t : Bool) → cond t (a * 256 + b) (b * 256 + a) < 65536
+    go : (t : Bool) → cond t (a * colliders + b) (b * colliders + a) < colliders * colliders
     go true = omega arith
     go false = omega arith
 
-number_is : (a b : ℕ) → pair_number a b ≡ min a b * 256 + max a b
+number_is : (a b : ℕ) → pair_number a b ≡ min a b * colliders + max a b
 number_is a b = go (ltb a b) refl
   where
-    go : (t : Bool) → ltb a b ≡ t → cond t (a * 256 + b) (b * 256 + a) ≡ min a b * 256 + max a b
+    go : (t : Bool) → ltb a b ≡ t → cond t (a * colliders + b) (b * colliders + a) ≡ min a b * colliders + max a b
     go true e = let h = ltb-true a b e in omega arith
     go false e = let h = ltb-false a b e in omega arith
 
@@ -213,8 +213,8 @@ unfolding same_colliders
 same_crossed a b = rw (eq-eqb a a refl, eq-eqb b b refl) (or-true (eqb a b && eqb b a))
 
 -- the number, from the two ids of the pair's key
-pub number_of_ids : (a b : ℕ) {i : PairIds} → a < 2 ^ 32 → b < 2 ^ 32 → i ≡ ids_of (key_of a b) → i.lower * 256 + i.higher ≡ pair_number a b
-number_of_ids a b h l e = ap (λ (p : PairIds). p.lower * 256 + p.higher) (e ∙ ids_of_key a b h l) ∙ sym (number_is a b)
+pub number_of_ids : (a b : ℕ) {i : PairIds} → a < 2 ^ 32 → b < 2 ^ 32 → i ≡ ids_of (key_of a b) → i.lower * colliders + i.higher ≡ pair_number a b
+number_of_ids a b h l e = ap (λ (p : PairIds). p.lower * colliders + p.higher) (e ∙ ids_of_key a b h l) ∙ sym (number_is a b)
 
 -- two pairs have one key exactly if they are the same, in either order
 module _ (a b c d : ℕ) (ha : a < 2 ^ 32) (hb : b < 2 ^ 32) (hc : c < 2 ^ 32) (hd : d < 2 ^ 32) where
@@ -251,7 +251,7 @@ module _ (a b c d : ℕ) (ha : a < colliders) (hb : b < colliders) (hc : c < col
             | inr s ↦ omega (arith, s.0, s.1)
           ])
 
-      split : min a b * 256 + max a b ≡ min c d * 256 + max c d → (t : Bool) → eqb a c ≡ t → same_colliders a b c d ≡ true
+      split : min a b * colliders + max a b ≡ min c d * colliders + max c d → (t : Bool) → eqb a c ≡ t → same_colliders a b c d ≡ true
       split e true t =
           let p = eqb-true a c t in
           let q : b ≡ d = omega arith in
@@ -283,10 +283,10 @@ pair_fresh g p e h m =
 pub number_read : (g : List ℕ) (p : ℕ) {id at n : ℕ} → RecordAt g id at → id ≡ listed_at g p → n ≡ pair_number (word_at g at) (word_at g (at + 1)) → n ≡ place_number g p
 number_read g p r e h = h ∙ ap (λ (a : ℕ). pair_number (word_at g a) (word_at g (a + 1))) (place_read g r p e)
 
-pub place_below : (g : List ℕ) (p : ℕ) → contacts_fit g ≡ true → p < listed_count g → place_number g p < 65536
+pub place_below : (g : List ℕ) (p : ℕ) → contacts_fit g ≡ true → p < listed_count g → place_number g p < colliders * colliders
 place_below g p e h =
     let a = fitting g (contact_at g (listed_at g p)) (fits_at g p e h) in
     number_below (word_at g (contact_at g (listed_at g p))) (word_at g (contact_at g (listed_at g p) + 1)) a.collider1 a.collider2
 
-pub pair_seen : (g : List ℕ) (p : ℕ) {bits : List ℕ} {n : ℕ} {r : Bool} → contacts_fit g ≡ true → p < listed_count g → Marked (place_number g) p bits → n ≡ place_number g p → r ≡ bit_at bits n → every (λ q. not (same_pair g q p)) p ≡ not r
-pair_seen g p {bits} e h m i s = pair_fresh g p e h m ∙ ap not (ap (bit_at bits) (sym i) ∙ sym s)
+pub pair_fresh_at : (g : List ℕ) (p : ℕ) {bits : List ℕ} {n : ℕ} {r : Bool} → contacts_fit g ≡ true → p < listed_count g → Marked (place_number g) p bits → n ≡ place_number g p → r ≡ not (bit_at bits n) → every (λ q. not (same_pair g q p)) p ≡ r
+pair_fresh_at g p {bits} e h m i s = pair_fresh g p e h m ∙ ap not (ap (bit_at bits) (sym i)) ∙ sym s

@@ -1,16 +1,17 @@
 // The range test of a lent graph, linear in its words: refusals 1 and 2 of the specification, condition by condition.
+// What the earlier conditions show (`RightLength`, `Counted`, `ListedGiven`, `Standing`) is a clause and no ghost field: each serves three to five functions, and a struct for each, with what makes it, would be longer.
+// A view `{ words: &[u32] }` with `Checked` for its ghost field was tried: it proves, but is no plainer, since what writes the lent `&mut [u32]` has the clause and would make a view for each reader.
 ghost use Rattle.std.specs.Prelude.{◌≡◌, true, ◌&&◌, ◌||◌, eqb, ◌+◌, ◌≤◌, ◌<◌, length};
-ghost use Rattle.layout.specs.Bits.{most_blocks};
 ghost use Rattle.layout.specs.Contact.{contact_collider2, contact_size};
 ghost use Rattle.rules.specs.Limits.{bodies, colliders};
 ghost use Rattle.contact_range.specs.Range.{right_length, optional_fits, names_fit, marks_fit, manifolds_fit, contact_fits, counts_fit, listed_given, names_back, contacts_fit, free_given, stands, is_free, free_apart, given_known, pairs_once, in_range};
 ghost use Rattle.contact_range.specs.Recorded.{given_of, listed_count, listed_at, contact_at};
-ghost use Rattle.contact_range.specs.Conditions.{RightLength, index_at, pair_blocks, Counted, ListedGiven, Standing, FreeTaken, Unmarked, FreeMarked, listed_fits, free_fits, pair_number};
+ghost use Rattle.contact_range.specs.Conditions.{RightLength, index_at, Counted, ListedGiven, Standing, FreeTaken, Unmarked, FreeMarked, listed_fits, free_fits, pair_number};
 ghost use Rattle.words.specs.Words.{word_at};
 
 use crate::places::{contact_at, free_at, id_at};
 use contact_types::contact_id::ContactId;
-use data_structures::bit_vec::{get, set};
+use data_structures::bit_vec::{get, insert};
 use data_structures::pair_key::PairKey;
 use layout::bits::MOST_BLOCKS;
 use layout::contact::{
@@ -21,26 +22,23 @@ use layout::graph::{GRAPH_CAPACITY, GRAPH_FREED, GRAPH_GIVEN, GRAPH_LIST, GRAPH_
 use layout::limits::{BODIES, COLLIDERS, MANIFOLDS, MOST_CONTACTS, STORED_POINTS};
 use layout::manifold::MANIFOLD_SIZE;
 use words::load::load;
-use words::row::mark_fits;
+use words::row::{mark_fits, where_set};
 
 // Bit words for a mark of every pair of colliders.
-const PAIR_BLOCKS: usize = 1024;
+const PAIR_BLOCKS: usize = COLLIDERS as usize * COLLIDERS as usize / 64;
 
 // Refusal 1: the capacity is 1 to 256, and the length is the one for it.
+#[tactic(auto, unfolding(crate::specs::Range::right_length))]
 pub fn right_length(graph: &[u32]) -> bool
     ensures { result ≡ right_length graph.now }
 {
-    if graph.len() == 0 {
+    if graph.is_empty() {
         return false;
     }
     let capacity = load::<usize>(graph, GRAPH_CAPACITY);
-    if capacity == 0 {
-        return false;
-    }
-    if MOST_CONTACTS < capacity {
-        return false;
-    }
-    graph.len() == GRAPH_LIST + 2 * capacity + capacity * CONTACT_SIZE
+    0 < capacity
+        && capacity <= MOST_CONTACTS
+        && graph.len() == GRAPH_LIST + 2 * capacity + capacity * CONTACT_SIZE
 }
 
 // A mark, and behind a mark of 1 a body's number.
@@ -49,13 +47,8 @@ fn body_fits(graph: &[u32], at: usize) -> bool
     ensures { result ≡ optional_fits bodies graph.now at }
 {
     let mark = load::<u32>(graph, at);
-    if 2 <= mark {
-        return false;
-    }
-    if mark == 1 {
-        return load::<u32>(graph, at + 1) < BODIES;
-    }
-    true
+    let number = load::<u32>(graph, at + 1);
+    where_set(mark, number < BODIES)
 }
 
 // The numbers of colliders and bodies in the record that begins at `at`.
@@ -162,17 +155,16 @@ fn free_given(graph: &[u32]) -> bool
 }
 
 // No id is free twice: each is marked, and none is marked already.
-fn free_once(graph: &[u32], marks: &mut [u64]) -> bool
-    requires { Counted graph.now × (free_given graph.now ≡ true) × (length marks.old ≡ most_blocks) × Unmarked marks.old }
+fn free_once(graph: &[u32], marks: &mut [u64; MOST_BLOCKS]) -> bool
+    requires { Counted graph.now × (free_given graph.now ≡ true) × Unmarked marks.old }
     ensures { FreeMarked graph.now marks.new result }
 {
     let freed = load::<usize>(graph, GRAPH_FREED);
     for k in 0..freed {
         let id = free_at(graph, k);
-        if get(marks, id.0 as usize) {
+        if !insert(marks, id.0 as usize) {
             return false;
         }
-        set(marks, id.0 as usize);
     }
     true
 }
@@ -197,7 +189,7 @@ fn free_apart(graph: &[u32]) -> bool
 }
 
 // Whether an id stands or is free; the free ones are marked.
-fn is_known(graph: &[u32], marks: &[u64], id: ContactId) -> bool
+fn is_known(graph: &[u32], marks: &[u64; MOST_BLOCKS], id: ContactId) -> bool
     requires { Standing graph.now × FreeTaken graph.now marks.now × (id.0 < given_of graph.now) }
     ensures { result ≡ (stands graph.now id.0 || is_free graph.now id.0) }
 {
@@ -205,7 +197,7 @@ fn is_known(graph: &[u32], marks: &[u64], id: ContactId) -> bool
 }
 
 // An id that was given stands or is free.
-fn given_known(graph: &[u32], marks: &[u64]) -> bool
+fn given_known(graph: &[u32], marks: &[u64; MOST_BLOCKS]) -> bool
     requires { Standing graph.now × FreeTaken graph.now marks.now }
     ensures { result ≡ given_known graph.now }
 {
@@ -240,8 +232,8 @@ fn pair_number(graph: &[u32], at: usize) -> usize
 }
 
 // The pairs differ: each is marked by its number, and none is marked already.
-fn pairs_differ(graph: &[u32], marks: &mut [u64]) -> bool
-    requires { ListedGiven graph.now × (contacts_fit graph.now ≡ true) × (length marks.old ≡ pair_blocks) × Unmarked marks.old }
+fn pairs_differ(graph: &[u32], marks: &mut [u64; PAIR_BLOCKS]) -> bool
+    requires { ListedGiven graph.now × (contacts_fit graph.now ≡ true) × Unmarked marks.old }
     ensures { result ≡ pairs_once graph.now }
 {
     let listed = load::<usize>(graph, GRAPH_LISTED);
@@ -249,10 +241,9 @@ fn pairs_differ(graph: &[u32], marks: &mut [u64]) -> bool
         let id = id_at(graph, GRAPH_LIST + p);
         let at = contact_at(graph, id);
         let pair = pair_number(graph, at);
-        if get(marks, pair) {
+        if !insert(marks, pair) {
             return false;
         }
-        set(marks, pair);
     }
     true
 }

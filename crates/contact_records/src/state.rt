@@ -3,18 +3,15 @@ ghost use Rattle.std.specs.Prelude.{◌≡◌, ◌+◌, ◌≤◌, length, Some}
 ghost use Rattle.rows.specs.Rows.{put};
 ghost use Rattle.layout.specs.Contact.{cache_size, flags_size};
 ghost use Rattle.contact_records.specs.Recorded.{flags_at, cache_at};
-ghost use Rattle.contact_records.specs.StateViews.{flags_of, cached_of, cache_of};
+ghost use Rattle.contact_records.specs.StateViews.{recorded_flags, flags_of, cached_of, cache_of};
 ghost use Rattle.contact_records.specs.Written.{optional_words, int_word, flags_words, cache_words};
 
 use contact_types::contact_manifold::ContactRecyclingCache;
-use layout::contact::{
-    CACHE_RELATIVE_ROTATION, CACHE_RELATIVE_TRANSLATION, CACHE_ROTATION1, CACHE_ROTATION2,
-    CACHE_SIZE, FLAGS_SIZE,
-};
+use layout::contact::{CACHE_SIZE, FLAGS_SIZE};
 use manifold_records::zeros::store_zeros;
 use math::bits::bits_of;
-use words::load::load;
-use words::row::{load_words, mark_word, store_words};
+use words::load::{FromRow, load, load_present};
+use words::row::{mark_word, store_words};
 
 // The Rust's flags, a mark for each.
 #[derive(Clone, Copy)]
@@ -30,32 +27,37 @@ pub struct ContactPairFlags {
     pub modify_contacts: bool,
 }
 
-// The flags, of their words.
-fn flags_of(w: [u32; FLAGS_SIZE]) -> ContactPairFlags
-    ensures { flags_of result ≡ flags_at w 0 }
-{
-    ContactPairFlags {
-        touching: w[0] == 1,
-        disjoint_aabb: w[1] == 1,
-        started_touching: w[2] == 1,
-        stopped_touching: w[3] == 1,
-        generate_constraints: w[4] == 1,
-        started_generating_constraints: w[5] == 1,
-        static1: w[6] == 1,
-        static2: w[7] == 1,
-        modify_contacts: w[8] == 1,
+impl FromRow for ContactPairFlags {
+    ghost size = { flags_size };
+
+    ghost at = { recorded_flags };
+
+    #[tactic(auto, unfolding(crate::specs::StateViews::recorded_flags))]
+    fn from_row(row: &[u32], from: usize) -> ContactPairFlags {
+        ContactPairFlags {
+            touching: load(row, from),
+            disjoint_aabb: load(row, from + 1),
+            started_touching: load(row, from + 2),
+            stopped_touching: load(row, from + 3),
+            generate_constraints: load(row, from + 4),
+            started_generating_constraints: load(row, from + 5),
+            static1: load(row, from + 6),
+            static2: load(row, from + 7),
+            modify_contacts: load(row, from + 8),
+        }
     }
 }
 
+// Seen as the rules' flags.
+#[tactic(auto, using(crate::specs::MadeLaws::flags_seen))]
 pub fn load_flags(g: &[u32], at: usize) -> ContactPairFlags
     requires { at + flags_size ≤ length g.now }
     ensures { flags_of result ≡ flags_at g.now at }
 {
-    let mut w = [0u32; FLAGS_SIZE];
-    load_words(g, at, &mut w);
-    flags_of(w)
+    load(g, at)
 }
 
+#[tactic(auto, unfolding(crate::specs::Written::flags_words))]
 fn flags_words(f: ContactPairFlags) -> [u32; FLAGS_SIZE]
     ensures { result ≡ flags_words (flags_of f) }
 {
@@ -95,30 +97,20 @@ pub fn optional_words(o: Option<u32>) -> [u32; 2]
 pub fn word_of_int(i: i32) -> u32
     ensures { result ≡ int_word i }
 {
-    if i < 0 {
-        0xffff_ffff - (-1 - i) as u32
-    } else {
-        i as u32
-    }
+    i.cast_unsigned()
 }
 
+// Seen as the rules' cache.
+#[tactic(auto, using(crate::specs::MadeLaws::cache_present))]
 pub fn load_cache(g: &[u32], at: usize) -> Option<ContactRecyclingCache>
     requires { at + cache_size ≤ length g.now }
     ensures { cache_of result ≡ cache_at g.now at }
 {
-    let mark = load::<u32>(g, at);
-    if mark == 1 {
-        Some(ContactRecyclingCache {
-            rotation1: load(g, at + CACHE_ROTATION1),
-            rotation2: load(g, at + CACHE_ROTATION2),
-            relative_translation: load(g, at + CACHE_RELATIVE_TRANSLATION),
-            relative_rotation: load(g, at + CACHE_RELATIVE_ROTATION),
-        })
-    } else {
-        None
-    }
+    load_present(g, at)
 }
 
+// One array, and so one store and one law, as `point_words`.
+#[tactic(auto, unfolding(crate::specs::Written::cache_words))]
 fn cached_words(c: ContactRecyclingCache) -> [u32; CACHE_SIZE]
     ensures { result ≡ cache_words (Some (cached_of c)) }
 {
@@ -146,6 +138,7 @@ fn cached_words(c: ContactRecyclingCache) -> [u32; CACHE_SIZE]
     ]
 }
 
+#[tactic(auto, unfolding(crate::specs::Written::cache_words))]
 pub fn store_cache(g: &mut [u32], at: usize, c: Option<ContactRecyclingCache>)
     requires { at + cache_size ≤ length g.old }
     ensures { g.new ≡ put g.old at (cache_words (cache_of c)) }

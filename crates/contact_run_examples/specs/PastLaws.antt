@@ -6,10 +6,10 @@ use Rattle.std.proofs.Math.Bool.{cond}
 use Rattle.rules.specs.Limits.{bodies}
 use Rattle.rules.specs.Numbers.{every}
 use Rattle.rule_laws.specs.NumberLaws.{every_at, every_all}
-use Rattle.words.specs.Words.{word_at, is_mark}
+use Rattle.words.specs.Words.{word_at, is_mark, where_set}
 use Rattle.layout.specs.Body.{body_friction, body_margin, body_speculative_maximum, body_static}
 use Rattle.layout.specs.Collider.{collider_body, collider_friction, collider_margin, collider_restitution, collider_sensor, collider_size}
-use Rattle.collider.specs.Range.{coefficient_fits, where_set, collider_fits, body_fits}
+use Rattle.collider.specs.Range.{coefficient_fits, collider_fits, body_fits}
 use Rattle.collider.specs.Recorded.{collider_at, present_collider}
 use Rattle.manifold_records.specs.Written.{zeros}
 use Rattle.contact_graph.specs.LaidOutLaws.{zeros_at}

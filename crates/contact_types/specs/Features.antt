@@ -1,8 +1,13 @@
 -- Feature numbers: a kind (1 vertex, 2 edge, 3 face) in the two highest bits, a code in the other thirty. Definitions only.
-use Rattle.std.specs.Prelude.{ℕ, ◌+◌, ◌*◌, ◌/◌, ◌^◌, Bool, true, false, eqb, ltb, None, Some, Option}
+use Rattle.std.specs.Prelude.{ℕ, ◌+◌, ◌*◌, ◌/◌, ◌^◌, Bool, true, false, List, eqb, ltb, None, Some, Option}
+use Rattle.words.specs.Words.{word_at}
 use Rattle.contact_types.specs.declared.feature_id.PackedFeatureId.{PackedFeatureId}
 use Rattle.contact_types.specs.declared.feature_id.FeatureKind.{FeatureKind}
 use Rattle.contact_types.specs.declared.feature_id.FeatureKind.TheVariants.{Vertex, Edge, Face}
+
+-- the feature whose number stands at a place
+abbrev pub feature_at : List ℕ → ℕ → PackedFeatureId
+feature_at xs at = record { 0 = word_at xs at }
 
 abbrev pub number_of : FeatureKind → ℕ
 number_of Vertex = 1

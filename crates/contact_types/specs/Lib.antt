@@ -3,6 +3,7 @@ pub mod Points
 pub mod Refusals
 pub mod RefusalLaws
 pub mod Views
+pub mod Cached
 pub mod Pruned
 pub mod PruneStepLaws
 pub mod PruneEndLaws

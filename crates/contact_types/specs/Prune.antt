@@ -11,7 +11,11 @@ use Rattle.contact_types.specs.declared.pruning.KeptPoints.{KeptPoints}
 use Rattle.contact_types.specs.declared.pruning.PrunePoint.{PrunePoint}
 use Rattle.contact_types.specs.declared.refusal.Refusal.{Refusal}
 
--- point k of the lent words: anchor 1, then penetration
+-- the point at a place: anchor 1, then penetration
+abbrev pub recorded_prune_point : List ℕ → ℕ → PrunePoint
+recorded_prune_point xs at = record { anchor1 = vec3_at xs at; penetration = float_at xs (at + prune_point_penetration) }
+
+-- point k of the lent words
 abbrev pub prune_point_at : List ℕ → ℕ → rules.PrunePoint
 prune_point_at words k = record { anchor1 = vec3_at words (prune_point_size * k); penetration = float_at words (prune_point_size * k + prune_point_penetration) }
 

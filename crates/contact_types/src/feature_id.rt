@@ -1,9 +1,21 @@
 // The number of a geometric feature: a vertex, an edge or a face, its kind in the two highest bits. From avian's feature_id.rs.
 ghost use Rattle.std.specs.Prelude.{◌≡◌};
-ghost use Rattle.contact_types.specs.Features.{packed_as, is_kind, number_of};
+ghost use Rattle.contact_types.specs.Features.{feature_at, packed_as, is_kind, number_of};
+
+use words::load::{FromRow, load};
 
 #[derive(Clone, Copy, PartialEq, Eq, Hash, Debug, Default)]
 pub struct PackedFeatureId(pub u32);
+
+impl FromRow for PackedFeatureId {
+    ghost size = { 1 };
+
+    ghost at = { feature_at };
+
+    fn from_row(row: &[u32], from: usize) -> PackedFeatureId {
+        PackedFeatureId(load(row, from))
+    }
+}
 
 // What a feature is. No kind has the number 0.
 #[derive(Clone, Copy, PartialEq, Eq, Hash, Debug)]

@@ -2,23 +2,25 @@
 ghost use Rattle.std.specs.Prelude.{◌*◌, ◌+◌, ◌≤◌, ◌<◌, ◌≡◌, length};
 ghost use Rattle.layout.specs.Prune.{prune_point_size, prune_points_length};
 ghost use Rattle.rules.specs.Limits.{proposed_points};
-ghost use Rattle.contact_types.specs.Prune.{prune_point_at, LoadedPoints, Pruned};
-ghost use Rattle.contact_types.specs.Pruned.{prune_point_of};
+ghost use Rattle.contact_types.specs.Prune.{recorded_prune_point, LoadedPoints, Pruned};
 
 use crate::pruning::{KeptPoints, PrunePoint, prune_points};
 use crate::refusal::Refusal;
 use layout::limits::{PROPOSED_POINTS, STORED_POINTS};
 use layout::prune::{PRUNE_POINT_PENETRATION, PRUNE_POINT_SIZE, PRUNE_POINTS_LENGTH};
 use math::vec::Vec3;
-use words::load::load;
+use words::load::{FromRow, load};
 
-fn load_point(points: &[u32], k: usize) -> PrunePoint
-    requires { prune_point_size * k + prune_point_size ≤ length points.now }
-    ensures { prune_point_of result ≡ prune_point_at points.now k }
-{
-    PrunePoint {
-        anchor1: load(points, PRUNE_POINT_SIZE * k),
-        penetration: load(points, PRUNE_POINT_SIZE * k + PRUNE_POINT_PENETRATION),
+impl FromRow for PrunePoint {
+    ghost size = { prune_point_size };
+
+    ghost at = { recorded_prune_point };
+
+    fn from_row(row: &[u32], from: usize) -> PrunePoint {
+        PrunePoint {
+            anchor1: load(row, from),
+            penetration: load(row, from + PRUNE_POINT_PENETRATION),
+        }
     }
 }
 
@@ -28,12 +30,13 @@ fn load_points(points: &[u32], count: usize) -> [PrunePoint; PROPOSED_POINTS]
 {
     let mut loaded = [PrunePoint::default(); PROPOSED_POINTS];
     for k in 0..count {
-        loaded[k] = load_point(points, k);
+        loaded[k] = load(points, PRUNE_POINT_SIZE * k);
     }
     loaded
 }
 
 // The points' numbers go by their places in the buffer, from 0.
+#[tactic(auto, unfolding(crate::specs::Prune::prune_answer))]
 pub fn prune(normal: Vec3, points: &[u32], count: u32) -> Result<KeptPoints, Refusal>
     ensures { Pruned normal points.now count result }
 {

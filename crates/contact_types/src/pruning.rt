@@ -44,7 +44,7 @@ pub struct Sides {
 }
 
 // The numbers of the points that stay: the first `count` of the four. The others are 0.
-// The C interface hands on these five words.
+// With a count: the promise says what the unused numbers are too, which a list of a varying length would not, and the C interface hands on these five words.
 #[derive(Clone, Copy, PartialEq, Eq, Debug, Default)]
 pub struct KeptPoints {
     pub count: u32,

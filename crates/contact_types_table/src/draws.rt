@@ -1,27 +1,7 @@
 // The draws that the cases are made of: by the key of what is made and the choice's number.
-use case_draws::draws::{coarse, common, pick, seeded};
+use case_draws::draws::{AWKWARD, coarse, common, pick, seeded};
 use math::bits::float_of;
 use math::vec::Vec3;
-
-// NaN and others of its kind, the infinities, the zeros, subnormal, huge and tiny numbers.
-const AWKWARD: [u32; 16] = [
-    0x7fc0_0000,
-    0xff80_0001,
-    0x7f80_0000,
-    0xff80_0000,
-    0x0000_0000,
-    0x8000_0000,
-    0x0000_0001,
-    0x807f_ffff,
-    0x0080_0000,
-    0x7f7f_ffff,
-    0xff7f_ffff,
-    0x5e26_8890,
-    0xde26_8890,
-    0x1e3c_e508,
-    0x4974_2400,
-    0xb586_37bd,
-];
 
 const SEED: u32 = 20260;
 
@@ -50,8 +30,12 @@ impl Kind {
     ];
 }
 
+// The second is here a NaN that is not the one written.
 fn awkward(d: u32) -> u32 {
-    pick(&AWKWARD, d)
+    match d as usize % AWKWARD.len() {
+        1 => 0xff80_0001,
+        _ => pick(&AWKWARD, d),
+    }
 }
 
 fn pattern(d: u32, kind: Kind) -> u32 {

@@ -5,7 +5,7 @@ ghost use Rattle.std.specs.Prelude.{◌≤◌};
 ghost use Rattle.rules.specs.Limits.{stored_points};
 
 use crate::draws::{Kind, draw, number, vector};
-use case_draws::draws::pick;
+use case_draws::draws::{pick, slot};
 use case_draws::manifolds::{feature_word, few_points, grid};
 use case_draws::numbers::MANIFOLDS;
 use contact_types::contact_point::ContactPoint;
@@ -118,15 +118,15 @@ fn match_point(
     by_place: bool,
     threshold_squared: f32,
 ) -> ContactPoint {
-    for old in olds {
-        if matches(new, *old, by_place, threshold_squared) {
-            let mut matched = new;
-            matched.warm_start_normal_impulse = old.warm_start_normal_impulse;
-            matched.warm_start_tangent_impulse = old.warm_start_tangent_impulse;
-            return matched;
-        }
+    let matching = |old: &&ContactPoint| matches(new, **old, by_place, threshold_squared);
+    match olds.iter().find(matching) {
+        Some(old) => ContactPoint {
+            warm_start_normal_impulse: old.warm_start_normal_impulse,
+            warm_start_tangent_impulse: old.warm_start_tangent_impulse,
+            ..new
+        },
+        None => new,
     }
-    new
 }
 
 // Each point, against the points of the case's old manifold of a number.
@@ -140,10 +140,10 @@ fn match_contacts(news: &mut Points, case: u32, slot: u32, by_place: bool) {
 
 const MANIFOLD_COUNTS: u32 = MANIFOLDS + 1;
 
-// Against each of the case's old manifolds in turn: a later one overrides.
-fn match_all(news: &mut Points, case: u32, by_place: bool) {
-    for i in 0..draw(case, 5) % MANIFOLD_COUNTS {
-        match_contacts(news, case, 10 + i, by_place);
+// Against the case's first old manifolds in turn: a later one overrides.
+fn match_all(news: &mut Points, case: u32, count: u32, by_place: bool) {
+    for i in 0..count {
+        match_contacts(news, case, slot(10, i), by_place);
     }
 }
 
@@ -165,17 +165,16 @@ pub fn print_cases<W: Write>(out: &mut W, by_place: bool) -> io::Result<()> {
     } else {
         ("match", "match_one")
     };
-    for c in 0..1000 {
+    for c in 0..1300 {
         let case = draw(c, 1);
+        let (name, count) = if c < 1000 {
+            (all, draw(case, 5) % MANIFOLD_COUNTS)
+        } else {
+            (one, 1)
+        };
         let mut news = manifold(case, 4);
-        match_all(&mut news, case, by_place);
-        print_line(out, all, c, &news)?;
-    }
-    for c in 1000..1300 {
-        let case = draw(c, 1);
-        let mut news = manifold(case, 4);
-        match_contacts(&mut news, case, 10, by_place);
-        print_line(out, one, c, &news)?;
+        match_all(&mut news, case, count, by_place);
+        print_line(out, name, c, &news)?;
     }
     Ok(())
 }

@@ -1,7 +1,4 @@
 // Pruning of more points than are stored: the numbers of those that stay. Every third case goes through the call `prune`.
-ghost use Rattle.std.specs.Prelude.{◌<◌, ◌≤◌};
-ghost use Rattle.rules.specs.Limits.{proposed_points};
-
 use crate::draws::{Kind, draw, number, vector};
 use case_draws::draws::{past, pick, slot};
 use case_draws::manifolds::many_points;
@@ -136,21 +133,7 @@ fn print_kept<W: Write>(out: &mut W, kept: KeptPoints) -> io::Result<()> {
     Ok(())
 }
 
-// Through the points' words, or by the points.
-fn print_pruned<W: Write>(
-    out: &mut W,
-    ps: [PrunePoint; PROPOSED_POINTS],
-    count: u32,
-    normal: Vec3,
-    through_words: bool,
-) -> io::Result<()>
-    requires { (1 < count) × (count ≤ proposed_points) }
-{
-    let answer = if through_words {
-        prune(normal, &words(&ps), count)
-    } else {
-        Ok(prune_points(&ps[..count as usize], normal))
-    };
+fn print_pruned<W: Write>(out: &mut W, answer: Result<KeptPoints, Refusal>) -> io::Result<()> {
     match answer {
         Ok(kept) => print_kept(out, kept),
         Err(refusal) => write!(out, "\t{:08X}", refusal.number()),
@@ -163,8 +146,14 @@ pub fn print_cases<W: Write>(out: &mut W) -> io::Result<()> {
         let kind = pick(&Kind::ALL, draw(key, 3));
         let ps = points(key, pick(&SHAPES, c), kind);
         let count = many_points(draw(key, 1));
+        let normal = normal(key, 2);
+        let answer = if c % 3 == 0 {
+            prune(normal, &words(&ps), count)
+        } else {
+            Ok(prune_points(&ps[..count as usize], normal))
+        };
         write!(out, "prune\t{c:08X}")?;
-        print_pruned(out, ps, count, normal(key, 2), c % 3 == 0)?;
+        print_pruned(out, answer)?;
         writeln!(out)?;
     }
     Ok(())

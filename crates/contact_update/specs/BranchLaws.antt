@@ -15,6 +15,8 @@ use Rattle.layout.specs.Collider.{collider_size}
 use Rattle.collider.specs.Range.{collider_fits, colliders_fit}
 use Rattle.collider.specs.Recorded.{present_collider, collider_at}
 use Rattle.contact_range.specs.RangeLaws.{first_of_lem, rest_of}
+use Rattle.contact_records.specs.StateViews.{cached_of, cache_of}
+use Rattle.contact_types.specs.declared.contact_manifold.ContactRecyclingCache.{ContactRecyclingCache}
 use Rattle.contact_update.specs.After.{after_words}
 use Rattle.contact_update.specs.Made.{skipped_update, disjoint_update, recycled_update, overlapped}
 use Rattle.contact_update.specs.Updates.{BelowLimit, Updates, SkippedIs}
@@ -42,6 +44,31 @@ module _ (s : Settings) (answer : Bool) (proposal : List ProposedManifold) (c1 c
   pub overlapped_recycled : (k : Cache) → p.cache ≡ Some k → recycles s p.flags.touching a b p.cache ≡ true → overlapped s answer proposal c1 c2 a b p ≡ recycled_update a b k p
   unfolding overlapping
   overlapped_recycled k c e = (λ i. overlapping s answer proposal c1 c2 a b p (e i) (c i))
+
+-- the code's answer is the cache, where the pair recycles
+none_kept : {A : Type 0} (k : A) (x : Bool) → cond x (Some k) None ≡ None → x ≡ false
+none_kept k true e = cc
+none_kept k false e = refl
+
+some_kept : {A : Type 0} {o : Option A} {k : A} (x : Bool) → cond x o None ≡ Some k → (x ≡ true) × (o ≡ Some k)
+some_kept true e = (refl, e)
+some_kept false e = cc
+
+module _ (s : Settings) (answer : Bool) (proposal : List ProposedManifold) (c1 c2 : Collider) (a b : Side) (p : Pair) (touching : Bool) (cache : Option ContactRecyclingCache)
+    {r : Option ContactRecyclingCache} (asked : r ≡ cond (recycles s touching a b (cache_of cache)) cache None) (same_touching : touching ≡ p.flags.touching) (same_cache : cache_of cache ≡ p.cache) where
+  none_read : (o : Option ContactRecyclingCache) → cond (recycles s touching a b (cache_of o)) o None ≡ None → recycles s touching a b (cache_of o) ≡ false
+  unfolding recycles
+  none_read None e = refl
+  none_read (Some k) e = none_kept k _ e
+
+  pub answered_full : r ≡ None → overlapped s answer proposal c1 c2 a b p ≡ renewed s answer proposal c1 c2 a b p
+  answered_full e =
+      overlapped_full s answer proposal c1 c2 a b p (recycles_read s a b p touching (cache_of cache) refl same_touching same_cache (none_read cache (sym asked ∙ e)))
+
+  pub answered_recycled : (k : ContactRecyclingCache) → r ≡ Some k → overlapped s answer proposal c1 c2 a b p ≡ recycled_update a b (cached_of k) p
+  answered_recycled k e =
+      let t = some_kept (recycles s touching a b (cache_of cache)) (sym asked ∙ e) in
+      overlapped_recycled s answer proposal c1 c2 a b p (cached_of k) (sym same_cache ∙ ap cache_of t.1) (recycles_read s a b p touching (cache_of cache) refl same_touching same_cache t.0)
 
 -- ---- rules 1 and 2
 pub skipped_updates : (p : Pair) (w : List ℕ) (r : Outcome) → SkippedIs r → Updates (skipped_update p) w w r

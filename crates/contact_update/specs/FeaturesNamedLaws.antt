@@ -20,7 +20,7 @@ use Rattle.rules.specs.Recycling.{scaled_tolerance, scaled_recycle, tolerance_fo
 use Rattle.rules.specs.Sides.{Side, side_of, overlap, interact}
 use Rattle.rules.specs.Status.{visit_all, standing_bits, max_contact_distance_of, recycled_count, StepResult, plain_step}
 use Rattle.rules.specs.Surface.{Surface, friction_of, restitution_of, clamped_velocity, swept_distance, effective_speculative_of, surface_of}
-use Rattle.rules.specs.Update.{Updated, full, recycled, aabbs_disjoint, body_of, cache_of, enabled, hooked, matched, change_of, remaining, renewed_flags, status_bit, renewed, disjoint, overlapping, updated_between, updated}
+use Rattle.rules.specs.Update.{Updated, full, aabbs_disjoint, body_of, cache_of, enabled, hooked, matched, change_of, remaining, renewed_flags, status_bit, renewed, disjoint, overlapping, updated_between, updated}
 use Rattle.rule_laws.specs.FeatureRuleLaws.{AllKnown, place_known_all}
 use Rattle.narrow_phase.specs.KeepingLaws.{kept_below}
 use Rattle.manifold_matching.specs.MatchedFitLaws.{Each, each_none, each_first, each_rest, each_map}

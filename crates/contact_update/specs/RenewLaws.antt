@@ -1,5 +1,5 @@
 -- A full update from what its functions give. Assumes nothing.
-use Rattle.std.specs.Prelude.{◌≡◌, refl, ℕ, zero, suc, ◌+◌, Bool, false, not, List, [], ◌∷◌, ◌++◌, eqb, Float, ◌-ℤ◌, Some}
+use Rattle.std.specs.Prelude.{◌≡◌, refl, ℕ, zero, suc, Bool, false, not, List, [], ◌∷◌, ◌++◌, eqb, Float, ◌-ℤ◌, Some}
 use Rattle.std.proofs.Math.Path.{sym, ap}
 use Rattle.std.proofs.Common.{◌∙◌, inr, arith, ne_eqb}
 use Rattle.std.specs.Float.Ieee.{of_bits, to_bits}

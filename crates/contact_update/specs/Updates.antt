@@ -42,7 +42,6 @@ pub record Ready (colliders bodies proposal w : List ℕ) : Type 0 where
 
 -- the same of a record and its proposal alone, once the colliders are loaded: what rules 2 to 12 ask of them
 pub record WordsReady (proposal w : List ℕ) : Type 0 where
-  pub record_words : length w ≡ contact_size
   pub counted : Counted w contact_manifolds
   pub proposal_words : length proposal ≡ proposal_size
   pub proposed : Proposed proposal 0

@@ -2,6 +2,7 @@
 use collider::settings::Settings;
 
 // The settings are loaded once for all contacts; the rows are lent whole.
+// Clauses name the rows apart: their definitions take the rows themselves, and `step` cites those for the rows as C lends them.
 #[derive(Clone, Copy)]
 pub struct UpdateInput<'a> {
     pub settings: Settings,

@@ -3,7 +3,7 @@ ghost use Rattle.std.specs.Prelude.{◌≡◌, length, Some};
 ghost use Rattle.rules.specs.Sides.{side_of};
 ghost use Rattle.rules.specs.Update.{body_of, renewed, updated_between};
 ghost use Rattle.layout.specs.Body.{bodies_length};
-ghost use Rattle.layout.specs.Contact.{contact_manifolds, contact_size};
+ghost use Rattle.layout.specs.Contact.{contact_manifolds};
 ghost use Rattle.collider.specs.Recorded.{body_at};
 ghost use Rattle.collider.specs.Views.{plain_settings, plain_collider, plain_body_if, plain_side};
 ghost use Rattle.manifold_records.specs.Counts.{Counted};
@@ -19,13 +19,15 @@ use collider::collider_record::{ColliderRecord, load_collider};
 use collider::overlap::{layers_interact, overlap};
 use collider::settings::Settings;
 use collider::side::{Side, side_of};
+use contact_filtering::filtering::Filtering;
+use contact_parameters::pair::OverlappingPair;
 use contact_parameters::recycling::recycle;
 use contact_parameters::surface::surface_of;
 use contact_records::state::{load_cache, load_flags};
 use contact_types::contact_manifold::ContactRecyclingCache;
 use layout::contact::{
     CONTACT_CACHE, CONTACT_COLLIDER1, CONTACT_COLLIDER2, CONTACT_FLAGS, CONTACT_MANIFOLDS,
-    CONTACT_SPECULATIVE_DISTANCE, PAIR_DISJOINT_AABB,
+    CONTACT_SIZE, CONTACT_SPECULATIVE_DISTANCE, PAIR_DISJOINT_AABB,
 };
 use words::load::load;
 use words::store::store;
@@ -40,8 +42,8 @@ pub struct Outcome {
 }
 
 // Rule 2: the boxes do not overlap, or the layers do not interact.
-fn update_disjoint(words: &mut [u32]) -> Outcome
-    requires { length words.old ≡ contact_size }
+#[tactic(auto, unfolding(crate::specs::After::after_words))]
+fn update_disjoint(words: &mut [u32; CONTACT_SIZE]) -> Outcome
     ensures { UpdatesAs disjoint_update words.old words.new result }
 {
     store(words, PAIR_DISJOINT_AABB, 1);
@@ -54,8 +56,14 @@ fn update_disjoint(words: &mut [u32]) -> Outcome
 }
 
 // Rule 5.
-fn update_recycled(words: &mut [u32], a: Side, b: Side, cache: ContactRecyclingCache) -> Outcome
-    requires { (length words.old ≡ contact_size) × Counted words.old contact_manifolds }
+#[tactic(auto, unfolding(crate::specs::After::after_words, rules::specs::Update::recycled_pair, contact_records::specs::Recorded::pair_at))]
+fn update_recycled(
+    words: &mut [u32; CONTACT_SIZE],
+    a: Side,
+    b: Side,
+    cache: ContactRecyclingCache,
+) -> Outcome
+    requires { Counted words.old contact_manifolds }
     ensures { UpdatesAs (recycled_update (plain_side a) (plain_side b) (cached_of cache)) words.old words.new result }
 {
     recycle_words(words, a, b, cache);
@@ -68,60 +76,50 @@ fn update_recycled(words: &mut [u32], a: Side, b: Side, cache: ContactRecyclingC
 
 // Rules 6 to 12.
 fn update_full(
-    s: Settings,
-    c1: ColliderRecord,
-    c2: ColliderRecord,
-    a: Side,
-    b: Side,
+    settings: Settings,
+    pair: OverlappingPair,
     proposal: &[u32],
-    words: &mut [u32],
+    words: &mut [u32; CONTACT_SIZE],
 ) -> Outcome
     requires { WordsReady proposal.now words.old }
-    ensures { UpdatesAs (renewed (plain_settings s) (hook_at proposal.now 0) (proposal_at proposal.now 0) (plain_collider c1) (plain_collider c2) (plain_side a) (plain_side b)) words.old words.new result }
+    ensures { UpdatesAs (renewed (plain_settings settings) (hook_at proposal.now 0) (proposal_at proposal.now 0) (plain_collider pair.c1) (plain_collider pair.c2) (plain_side pair.a) (plain_side pair.b)) words.old words.new result }
 {
     let flags = load_flags(words, CONTACT_FLAGS);
     let old = load::<u32>(words, CONTACT_MANIFOLDS);
-    let f = surface_of(
-        s,
-        c1,
-        c2,
-        a,
-        b,
-        load::<f32>(words, CONTACT_SPECULATIVE_DISTANCE),
-    );
-    let new = renew_manifolds(words, s, a, b, f, flags.modify_contacts, proposal);
-    let r = renew(c1, c2, a, b, f, flags, old, new);
-    store_renewal(words, r);
+    let given = load::<f32>(words, CONTACT_SPECULATIVE_DISTANCE);
+    let surface = surface_of(settings, pair, given);
+    let filtering = Filtering {
+        step_time: settings.step_time,
+        a: pair.a,
+        b: pair.b,
+        surface,
+    };
+    let new = renew_manifolds(words, settings, filtering, flags.modify_contacts, proposal);
+    let renewal = renew(pair, surface, flags, old, new);
+    store_renewal(words, renewal);
     Outcome {
-        bit: r.bit,
+        bit: renewal.bit,
         recycled: false,
-        max_contact_distance: r.max_contact_distance,
+        max_contact_distance: renewal.max_contact_distance,
     }
 }
 
 // Rules 4 to 12.
 fn update_overlapping(
-    s: Settings,
-    c1: ColliderRecord,
-    c2: ColliderRecord,
-    a: Side,
-    b: Side,
+    settings: Settings,
+    pair: OverlappingPair,
     proposal: &[u32],
-    words: &mut [u32],
+    words: &mut [u32; CONTACT_SIZE],
 ) -> Outcome
     requires { WordsReady proposal.now words.old }
-    ensures { UpdatesAs (overlapped (plain_settings s) (hook_at proposal.now 0) (proposal_at proposal.now 0) (plain_collider c1) (plain_collider c2) (plain_side a) (plain_side b)) words.old words.new result }
+    ensures { UpdatesAs (overlapped (plain_settings settings) (hook_at proposal.now 0) (proposal_at proposal.now 0) (plain_collider pair.c1) (plain_collider pair.c2) (plain_side pair.a) (plain_side pair.b)) words.old words.new result }
 {
     let flags = load_flags(words, CONTACT_FLAGS);
     let cache = load_cache(words, CONTACT_CACHE);
-    if !recycle(s, flags.touching, a, b, cache) {
-        return update_full(s, c1, c2, a, b, proposal, words);
+    match recycle(settings, flags.touching, pair.a, pair.b, cache) {
+        Some(cached) => update_recycled(words, pair.a, pair.b, cached),
+        None => update_full(settings, pair, proposal, words),
     }
-    // There is a cache: without one, recycling is abandoned.
-    let Some(k) = cache else {
-        return update_full(s, c1, c2, a, b, proposal, words);
-    };
-    update_recycled(words, a, b, k)
 }
 
 // The body that a collider names.
@@ -129,10 +127,7 @@ fn named_body(bodies: &[u32], named: Option<u32>) -> Option<BodyRecord>
     requires { (length bodies.now ≡ bodies_length) × BelowLimit named }
     ensures { plain_body_if result ≡ body_of (body_at bodies.now) named }
 {
-    match named {
-        Some(n) => load_body(bodies, n),
-        None => None,
-    }
+    load_body(bodies, named?)
 }
 
 // Rule 3: a side's body values.
@@ -146,26 +141,27 @@ fn side_at(bodies: &[u32], c: ColliderRecord) -> Side
 
 // Rules 2 to 12: both colliders are there.
 fn update_between(
-    s: Settings,
+    settings: Settings,
     c1: ColliderRecord,
     c2: ColliderRecord,
     bodies: &[u32],
     proposal: &[u32],
-    words: &mut [u32],
+    words: &mut [u32; CONTACT_SIZE],
 ) -> Outcome
     requires { BelowLimit (plain_collider c1).body × BelowLimit (plain_collider c2).body × (length bodies.now ≡ bodies_length) × WordsReady proposal.now words.old }
-    ensures { UpdatesAs (λ p. updated_between (plain_settings s) (body_at bodies.now) (hook_at proposal.now 0) (proposal_at proposal.now 0) p (Some (plain_collider c1)) (Some (plain_collider c2))) words.old words.new result }
+    ensures { UpdatesAs (λ p. updated_between (plain_settings settings) (body_at bodies.now) (hook_at proposal.now 0) (proposal_at proposal.now 0) p (Some (plain_collider c1)) (Some (plain_collider c2))) words.old words.new result }
 {
     let given = load::<f32>(words, CONTACT_SPECULATIVE_DISTANCE);
-    if !overlap(c1, c2, given) {
+    if !overlap(c1, c2, given) || !layers_interact(c1, c2) {
         return update_disjoint(words);
     }
-    if !layers_interact(c1, c2) {
-        return update_disjoint(words);
-    }
-    let a = side_at(bodies, c1);
-    let b = side_at(bodies, c2);
-    update_overlapping(s, c1, c2, a, b, proposal, words)
+    let pair = OverlappingPair {
+        c1,
+        c2,
+        a: side_at(bodies, c1),
+        b: side_at(bodies, c2),
+    };
+    update_overlapping(settings, pair, proposal, words)
 }
 
 // Rule 1: a collider is absent.
@@ -181,22 +177,19 @@ fn skipped() -> Outcome
 
 // Not lent an `UpdateInput`: of the proposals it reads the contact's own alone.
 pub fn update_record(
-    s: Settings,
+    settings: Settings,
     colliders: &[u32],
     bodies: &[u32],
     proposal: &[u32],
-    words: &mut [u32],
+    words: &mut [u32; CONTACT_SIZE],
 ) -> Outcome
     requires { Ready colliders.now bodies.now proposal.now words.old }
-    ensures { RecordUpdates (plain_settings s) colliders.now bodies.now proposal.now words.old words.new result }
+    ensures { RecordUpdates (plain_settings settings) colliders.now bodies.now proposal.now words.old words.new result }
 {
     let n1 = load::<u32>(words, CONTACT_COLLIDER1);
     let n2 = load::<u32>(words, CONTACT_COLLIDER2);
-    let Some(c1) = load_collider(colliders, n1) else {
+    let (Some(c1), Some(c2)) = (load_collider(colliders, n1), load_collider(colliders, n2)) else {
         return skipped();
     };
-    let Some(c2) = load_collider(colliders, n2) else {
-        return skipped();
-    };
-    update_between(s, c1, c2, bodies, proposal, words)
+    update_between(settings, c1, c2, bodies, proposal, words)
 }

@@ -5,7 +5,7 @@ ghost use Rattle.rules.specs.Recycling.{recycled_manifold};
 ghost use Rattle.collider.specs.Views.{plain_side};
 ghost use Rattle.manifold_records.specs.Counts.{Counted};
 ghost use Rattle.manifold_records.specs.Recorded.{point_at, points_at, manifolds_at};
-ghost use Rattle.layout.specs.Contact.{contact_manifolds, contact_size, contact_speculative_distance, pair_static1};
+ghost use Rattle.layout.specs.Contact.{contact_manifolds, contact_speculative_distance, pair_static1};
 ghost use Rattle.layout.specs.Manifold.{points_size};
 ghost use Rattle.layout.specs.Point.{point_size};
 ghost use Rattle.rules.specs.Limits.{stored_points};
@@ -19,7 +19,8 @@ use collider::side::Side;
 use contact_parameters::recycling::{Motion, motion_of};
 use contact_types::contact_manifold::ContactRecyclingCache;
 use layout::contact::{
-    CONTACT_FIRST_MANIFOLD, CONTACT_MANIFOLDS, CONTACT_SPECULATIVE_DISTANCE, PAIR_STATIC1,
+    CONTACT_FIRST_MANIFOLD, CONTACT_MANIFOLDS, CONTACT_SIZE, CONTACT_SPECULATIVE_DISTANCE,
+    PAIR_STATIC1,
 };
 use layout::manifold::{MANIFOLD_NORMAL, MANIFOLD_POINTS, MANIFOLD_SIZE};
 use layout::point::{POINT_ANCHOR2, POINT_BASE_PENETRATION, POINT_PENETRATION, POINT_SIZE};
@@ -43,6 +44,7 @@ fn penetration_at(words: &[u32], at: usize, normal: Vec3, motion: Motion) -> f32
 }
 
 // The penetrations of n points, which stand from a place on. Each is read where it stands: what was written stands before it.
+#[tactic(auto, using(crate::specs::PointLaws::points_turn), unfolding(crate::specs::After::points_put))]
 fn recycle_points(words: &mut [u32], at: usize, n: usize, normal: Vec3, motion: Motion)
     requires { (n ≤ stored_points) × (at + points_size ≤ length words.old) }
     ensures { words.new ≡ points_put (map (point_after motion normal) (points_at words.old at n)) at words.old }
@@ -54,22 +56,28 @@ fn recycle_points(words: &mut [u32], at: usize, n: usize, normal: Vec3, motion: 
 }
 
 // Each manifold is read where it stands, too.
-fn recycle_manifolds(words: &mut [u32], motion: Motion)
-    requires { (length words.old ≡ contact_size) × Counted words.old contact_manifolds }
+fn recycle_manifolds(words: &mut [u32; CONTACT_SIZE], motion: Motion)
+    requires { Counted words.old contact_manifolds }
     ensures { words.new ≡ manifolds_put (map (manifold_after motion) (manifolds_at words.old contact_manifolds)) (contact_manifolds + 1) words.old }
 {
-    let n = load::<u32>(words, CONTACT_MANIFOLDS) as usize;
+    let n = load::<usize>(words, CONTACT_MANIFOLDS);
     for k in 0..n {
         let at = CONTACT_FIRST_MANIFOLD + k * MANIFOLD_SIZE;
-        let count = load::<u32>(words, at) as usize;
+        let count = load::<usize>(words, at);
         let normal = load::<Vec3>(words, at + MANIFOLD_NORMAL);
         recycle_points(words, at + MANIFOLD_POINTS, count, normal, motion);
     }
 }
 
 // And the static marks, and the speculative distance.
-pub fn recycle_words(words: &mut [u32], a: Side, b: Side, cache: ContactRecyclingCache)
-    requires { (length words.old ≡ contact_size) × Counted words.old contact_manifolds }
+#[tactic(auto, using(crate::specs::ManifoldTurnLaws::recycled_stored))]
+pub fn recycle_words(
+    words: &mut [u32; CONTACT_SIZE],
+    a: Side,
+    b: Side,
+    cache: ContactRecyclingCache,
+)
+    requires { Counted words.old contact_manifolds }
     ensures { words.new ≡ put (put (manifolds_put (map (recycled_manifold (plain_side a) (plain_side b) (cached_of cache)) (manifolds_at words.old contact_manifolds)) (contact_manifolds + 1) words.old) pair_static1 (mark_word a.is_static ∷ mark_word b.is_static ∷ [])) contact_speculative_distance (0 ∷ []) }
 {
     let motion = motion_of(a, b, cache);

@@ -1,7 +1,7 @@
 // Bits in a lent row of 64-bit words. From avian's src/data_structures/bit_vec.rs.
 #![tactic(auto, unfolding(crate::specs::BitVec::blocks_of, crate::specs::BitVec::marked))]
 
-ghost use Rattle.std.specs.Prelude.{◌≡◌, ◌+◌, ◌*◌, ◌/◌, ◌%◌, ◌^◌, ◌≤◌, ◌<◌, length};
+ghost use Rattle.std.specs.Prelude.{◌≡◌, not, ◌+◌, ◌*◌, ◌/◌, ◌%◌, ◌^◌, ◌≤◌, ◌<◌, length};
 ghost use Rattle.data_structures.specs.BitVec.{blocks_of, bit_at, cleared, marked, joined, word_bits, Written, Visited};
 
 // How many words hold that many bits.
@@ -53,6 +53,17 @@ pub fn get(bits: &[u64], index: usize) -> bool
         return false;
     }
     (bits[block] & mask) != 0
+}
+
+// Sets one bit, and answers whether it was not set before, as a `HashSet` does.
+pub fn insert(bits: &mut [u64], index: usize) -> bool
+    requires { index < 64 * length bits.old }
+    ensures stored { bits.new ≡ marked bits.old index }
+    ensures fresh { result ≡ not (bit_at bits.old index) }
+{
+    let fresh = !get(bits, index);
+    set(bits, index);
+    fresh
 }
 
 // Joins other into bits, word by word: by number, since a `zip` with `iter_mut` tells a proof nothing of the words.

@@ -18,7 +18,6 @@ use layout::point::{
     POINT_SIZE, POINT_WARM_START_NORMAL_IMPULSE, POINT_WARM_START_TANGENT_IMPULSE,
     POINT_WARM_START_TANGENT_IMPULSE_Y,
 };
-use manifold_records::point::load_point;
 use words::load::load;
 use words::store::store;
 
@@ -38,6 +37,7 @@ impl Matching {
 }
 
 // The two warm start impulses of the old point at a place, and nothing else of it.
+#[tactic(auto, using(crate::specs::MatchingLaws::impulses_taken))]
 fn take_impulses(words: &mut [u32], at: usize, olds: &[u32], from: usize)
     requires { (at + point_size ≤ length words.old) × (from + point_size ≤ length olds.now) }
     ensures { words.new ≡ put words.old (at + point_warm_start_normal_impulse) (impulse_words (point_at olds.now from)) }
@@ -64,9 +64,9 @@ fn match_point(words: &mut [u32], at: usize, olds: &[u32], from: usize, n: usize
     requires { (at + point_size ≤ length words.old) × (n ≤ stored_points) × (from + points_size ≤ length olds.now) }
     ensures { PointMatched (feature_rule rule.by_place) (rule.threshold ⊗ rule.threshold) (points_at olds.now from n) at words.old words.new }
 {
-    let new = load_point(words, at);
+    let new = load::<ContactPoint>(words, at);
     for k in 0..n {
-        let old = load_point(olds, from + k * POINT_SIZE);
+        let old = load::<ContactPoint>(olds, from + k * POINT_SIZE);
         if rule.matches(new, old) {
             take_impulses(words, at, olds, from + k * POINT_SIZE);
             return;
@@ -79,8 +79,8 @@ fn match_contacts(words: &mut [u32], at: usize, olds: &[u32], from: usize, rule:
     requires { WrittenManifold words.old at × (at + manifold_size ≤ length words.old) × (from + manifold_size ≤ length olds.now) × (word_at olds.now from ≤ stored_points) }
     ensures { ManifoldMatched (feature_rule rule.by_place) rule.threshold (manifold_at olds.now from).points at words.old words.new }
 {
-    let count = load::<u32>(words, at) as usize;
-    let n = load::<u32>(olds, from) as usize;
+    let count = load::<usize>(words, at);
+    let n = load::<usize>(olds, from);
     for k in 0..count {
         match_point(
             words,

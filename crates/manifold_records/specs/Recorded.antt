@@ -1,19 +1,12 @@
 -- What words record: points and manifolds read as plain values of `rules`. Definitions only.
 -- A list has as many elements as its count says.
 use Rattle.std.specs.Prelude.{ℕ, ◌+◌, ◌*◌, List, map}
-use Rattle.std.specs.Float.{binary32}
-use Rattle.std.specs.Float.Ieee.{of_bits}
 use Rattle.math.specs.Vec.{vec2}
-use Rattle.math.specs.declared.vec.Vec3.{Vec3}
 use Rattle.rows.specs.Slots.{upto}
 use Rattle.rules.specs.Records.{Point, Manifold}
 use Rattle.words.specs.Words.{word_at, float_at, vec3_at}
 use Rattle.layout.specs.Manifold.{manifold_friction, manifold_points, manifold_restitution, manifold_size, manifold_tangent_velocity}
 use Rattle.layout.specs.Point.{point_anchor2, point_base_penetration, point_feature2, point_features, point_normal_impulse, point_normal_speed, point_penetration, point_position, point_size, point_warm_start_normal_impulse, point_warm_start_tangent_impulse, point_warm_start_tangent_impulse_y}
-
--- a vector, of its words
-abbrev pub vec3_by : ℕ → ℕ → ℕ → Vec3
-vec3_by x y z = record { x = of_bits binary32 x; y = of_bits binary32 y; z = of_bits binary32 z }
 
 unfoldable pub point_at : List ℕ → ℕ → Point
 point_at xs at =

@@ -5,63 +5,16 @@ ghost use Rattle.layout.specs.Manifold.{points_size};
 ghost use Rattle.layout.specs.Point.{point_size};
 ghost use Rattle.rules.specs.Limits.{stored_points};
 ghost use Rattle.contact_types.specs.Views.{point_of};
-ghost use Rattle.manifold_records.specs.Recorded.{point_at, vec3_by};
 ghost use Rattle.manifold_records.specs.Written.{point_words};
 
 use contact_types::contact_point::ContactPoint;
-use contact_types::feature_id::PackedFeatureId;
 use layout::limits::STORED_POINTS;
-use layout::point::{
-    POINT_BASE_PENETRATION, POINT_FEATURE2, POINT_FEATURES, POINT_NORMAL_IMPULSE,
-    POINT_NORMAL_SPEED, POINT_PENETRATION, POINT_SIZE, POINT_WARM_START_NORMAL_IMPULSE,
-    POINT_WARM_START_TANGENT_IMPULSE, POINT_WARM_START_TANGENT_IMPULSE_Y,
-};
-use math::bits::{bits_of, float_of};
-use math::vec::{Vec2, Vec3};
-use words::row::{load_words, store_words};
+use layout::point::POINT_SIZE;
+use math::bits::bits_of;
+use words::row::store_words;
 
-fn vec3_of(x: u32, y: u32, z: u32) -> Vec3
-    ensures { result ≡ vec3_by x y z }
-{
-    Vec3 {
-        x: float_of(x),
-        y: float_of(y),
-        z: float_of(z),
-    }
-}
-
-// The struct, of its words.
-fn point_of(w: [u32; POINT_SIZE]) -> ContactPoint
-    ensures { point_of result ≡ point_at w 0 }
-{
-    ContactPoint {
-        anchor1: vec3_of(w[0], w[1], w[2]),
-        anchor2: vec3_of(w[3], w[4], w[5]),
-        point: vec3_of(w[6], w[7], w[8]),
-        penetration: float_of(w[POINT_PENETRATION]),
-        base_penetration: float_of(w[POINT_BASE_PENETRATION]),
-        normal_impulse: float_of(w[POINT_NORMAL_IMPULSE]),
-        normal_speed: float_of(w[POINT_NORMAL_SPEED]),
-        warm_start_normal_impulse: float_of(w[POINT_WARM_START_NORMAL_IMPULSE]),
-        warm_start_tangent_impulse: Vec2 {
-            x: float_of(w[POINT_WARM_START_TANGENT_IMPULSE]),
-            y: float_of(w[POINT_WARM_START_TANGENT_IMPULSE_Y]),
-        },
-        feature_id1: PackedFeatureId(w[POINT_FEATURES]),
-        feature_id2: PackedFeatureId(w[POINT_FEATURE2]),
-    }
-}
-
-pub fn load_point(g: &[u32], at: usize) -> ContactPoint
-    requires { at + point_size ≤ length g.now }
-    ensures { point_of result ≡ point_at g.now at }
-{
-    let mut w = [0u32; POINT_SIZE];
-    load_words(g, at, &mut w);
-    point_of(w)
-}
-
-// The words, as a value.
+// The words, as a value. One array, and so one store and one law: stored part by part, the row after each part would have to be put together.
+#[tactic(auto, unfolding(crate::specs::Written::point_words))]
 fn point_words(p: ContactPoint) -> [u32; POINT_SIZE]
     ensures { result ≡ point_words (point_of p) }
 {
@@ -101,7 +54,7 @@ pub fn store_point(g: &mut [u32], at: usize, p: ContactPoint)
     store_words(g, at, &w);
 }
 
-// The first n of four points, one after another.
+// The first n of four points, one after another. By value: over a slice it was slower, since the array lent is cleared for every manifold, also where none is made.
 pub fn store_listed(g: &mut [u32], at: usize, points: [ContactPoint; STORED_POINTS], n: usize)
     requires { (n ≤ stored_points) × (at + points_size ≤ length g.old) }
     ensures { g.new ≡ put g.old at (each point_words (map point_of (take n points))) }

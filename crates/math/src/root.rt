@@ -40,6 +40,7 @@ fn step_towards(m: u64, g: u64) -> u64
 
 // The whole number nearest to the root of m, from a guess g. Every guess up to 2^24 will do. From one
 // that is at most one off neither loop is entered, and the table of `math_table` has no other.
+#[tactic(auto, using(crate::proofs::CorrectedLaws::still_above, crate::proofs::CorrectedLaws::still_below))]
 fn corrected(m: u64, g: u64) -> u64
     requires { (0 < m) × (m < 2 ^ 48) × (g ≤ 2 ^ 24) }
     ensures { IsNearest m result }

@@ -2,7 +2,7 @@
 // and the last eight, for squares and the floats beside them, and for random ones. And for one even
 // exponent and one odd, for every float: those from 1 up to 4.
 use crate::line::print_line;
-use crate::patterns::first_with;
+use crate::patterns::{beside, first_with};
 use case_draws::draws::xorshift;
 use math::bits::{bits_of, float_of};
 use math::root::{guess, root};
@@ -14,7 +14,7 @@ const MOST: u32 = 2;
 
 // How many guesses lie below the root's digits, on them and above them, by MOST at most; how many are
 // further off; and the most that one is off.
-#[derive(Clone, Copy)]
+#[derive(Clone, Copy, Default)]
 struct Tally {
     below: u32,
     on: u32,
@@ -24,14 +24,6 @@ struct Tally {
 }
 
 impl Tally {
-    const NONE: Self = Tally {
-        below: 0,
-        on: 0,
-        above: 0,
-        beyond: 0,
-        greatest: 0,
-    };
-
     fn count(&mut self, bits: u32) {
         let up = correction(bits);
         let down = up.wrapping_neg();
@@ -49,16 +41,12 @@ impl Tally {
         *counted = counted.wrapping_add(1);
     }
 
-    // A float and the two beside it.
-    fn count_three(&mut self, bits: u32) {
-        self.count(bits.wrapping_sub(1));
-        self.count(bits);
-        self.count(bits.wrapping_add(1));
-    }
-
+    // And the floats beside them.
     fn count_squares(&mut self, field: u8) {
         for n in 2049..4096 {
-            self.count_three(square(field, n));
+            for bits in beside(square(field, n)) {
+                self.count(bits);
+            }
         }
     }
 
@@ -135,7 +123,7 @@ fn drawn(field: u8, word: u32, k: u32) -> u32 {
 // The first eight floats of an exponent, zero left out, the last eight, squares and random ones.
 fn print_some<W: Write>(out: &mut W, field: u8) -> io::Result<u32> {
     let first = first_with(field);
-    let mut tally = Tally::NONE;
+    let mut tally = Tally::default();
     tally.count_from(first.max(1), 8);
     tally.count_from(first | 0x7f_fff8, 8);
     tally.count_squares(field);
@@ -145,7 +133,7 @@ fn print_some<W: Write>(out: &mut W, field: u8) -> io::Result<u32> {
 }
 
 fn print_all<W: Write>(out: &mut W, field: u8) -> io::Result<u32> {
-    let mut tally = Tally::NONE;
+    let mut tally = Tally::default();
     tally.count_from(first_with(field), 0x80_0000);
     tally.print(out, "corrected all", field)?;
     Ok(tally.greatest)

@@ -11,6 +11,7 @@ mod quats;
 mod roots;
 mod vectors;
 
+use patterns::print_cases;
 use std::io;
 use std::io::{BufWriter, Write};
 
@@ -21,8 +22,8 @@ fn main(rt: HostRuntime) -> io::Result<()> {
     roots::print_specials(&mut out)?;
     corrections::print_corrections(&mut out)?;
     choices::print_choices(&mut out)?;
-    vectors::print_vectors(&mut out)?;
+    print_cases(&mut out, |out, case| vectors::print_case(out, case))?;
     vectors::print_lengths_kept(&mut out)?;
-    quats::print_quats(&mut out)?;
+    print_cases(&mut out, |out, case| quats::print_case(out, case))?;
     out.flush()
 }

@@ -1,13 +1,15 @@
 // Awkward and ordinary floats, and the vectors and quaternions made of them: the cases go through
-// the table with another stride for each part. A tame case leaves the awkward patterns out.
+// the table with another stride for each part.
 use case_draws::draws::{pick, slot};
 use math::bits::float_of;
 use math::quat::Quat;
 use math::vec::Vec3;
+use std::io;
+use std::io::Write;
 
 // The first twelve are awkward: NaN, the infinities, the largest and the lowest, the zeros, two
 // subnormal numbers, the least normal one, 1e-20 and 3e18.
-const PATTERNS: [u32; 31] = [
+pub const PATTERNS: [u32; 31] = [
     0x7fc0_0000,
     0x7f80_0000,
     0xff80_0000,
@@ -46,29 +48,54 @@ pub fn first_with(field: u8) -> u32 {
     u32::from(field) << 23
 }
 
-// The k-th pattern's float, from the start again past the last.
-pub fn pattern(k: u32) -> f32 {
-    float_of(pick(&PATTERNS, k))
+// A float's pattern and the two beside it.
+pub fn beside(bits: u32) -> [u32; 3] {
+    [bits.wrapping_sub(1), bits, bits.wrapping_add(1)]
 }
 
-pub fn value(c: u32, tame: bool, stride: u32) -> f32 {
-    let k = slot(c, stride).wrapping_mul(stride);
-    pattern(if tame { 12 + k % 19 } else { k })
+// A tame case leaves the awkward patterns out.
+#[derive(Clone, Copy)]
+pub struct Case {
+    number: u32,
+    tame: bool,
 }
 
-pub fn vector(c: u32, tame: bool, stride: u32) -> Vec3 {
-    Vec3 {
-        x: value(c, tame, stride),
-        y: value(c, tame, slot(stride, 1)),
-        z: value(c, tame, slot(stride, 2)),
+impl Case {
+    pub fn value(self, stride: u32) -> f32 {
+        let k = slot(self.number, stride).wrapping_mul(stride);
+        let k = if self.tame { 12 + k % 19 } else { k };
+        float_of(pick(&PATTERNS, k))
+    }
+
+    pub fn vector(self, stride: u32) -> Vec3 {
+        Vec3 {
+            x: self.value(stride),
+            y: self.value(slot(stride, 1)),
+            z: self.value(slot(stride, 2)),
+        }
+    }
+
+    pub fn quat(self, stride: u32) -> Quat {
+        Quat {
+            x: self.value(stride),
+            y: self.value(slot(stride, 2)),
+            z: self.value(slot(stride, 3)),
+            w: self.value(slot(stride, 7)),
+        }
     }
 }
 
-pub fn quat(c: u32, tame: bool, stride: u32) -> Quat {
-    Quat {
-        x: value(c, tame, stride),
-        y: value(c, tame, slot(stride, 2)),
-        z: value(c, tame, slot(stride, 3)),
-        w: value(c, tame, slot(stride, 7)),
+// Each number with every pattern, and tame.
+pub fn print_cases<W: Write, F: Fn(&mut W, Case) -> io::Result<()>>(
+    out: &mut W,
+    print_case: F,
+) -> io::Result<()>
+    requires { F.IsAlwaysCallable print_case }
+{
+    for number in 0..40 {
+        for tame in [false, true] {
+            print_case(out, Case { number, tame })?;
+        }
     }
+    Ok(())
 }

@@ -1,7 +1,6 @@
 // What is done to quaternions, matrices and poses: the operands in a line, then the results.
-use crate::line::{print_float, print_line, print_quat, print_vector};
-use crate::patterns::{quat, vector};
-use math::bits::bits_of;
+use crate::line::{print_float, print_quat, print_vector, write_quat, write_vector};
+use crate::patterns::Case;
 use math::mat::Mat3;
 use math::pose::Pose;
 use math::quat::Quat;
@@ -32,30 +31,19 @@ fn print_relative<W: Write>(out: &mut W, a: Pose, b: Pose) -> io::Result<()> {
 }
 
 fn print_operands<W: Write>(out: &mut W, a: Quat, b: Quat, v: Vec3, u: Vec3) -> io::Result<()> {
-    let words = [
-        bits_of(a.x),
-        bits_of(a.y),
-        bits_of(a.z),
-        bits_of(a.w),
-        bits_of(b.x),
-        bits_of(b.y),
-        bits_of(b.z),
-        bits_of(b.w),
-        bits_of(v.x),
-        bits_of(v.y),
-        bits_of(v.z),
-        bits_of(u.x),
-        bits_of(u.y),
-        bits_of(u.z),
-    ];
-    print_line(out, "quats", &words)
+    write!(out, "quats")?;
+    write_quat(out, a)?;
+    write_quat(out, b)?;
+    write_vector(out, v)?;
+    write_vector(out, u)?;
+    writeln!(out)
 }
 
-fn print_case<W: Write>(out: &mut W, c: u32, tame: bool) -> io::Result<()> {
-    let a = quat(c, tame, 1);
-    let b = quat(c, tame, 10);
-    let v = vector(c, tame, 5);
-    let u = vector(c, tame, 14);
+pub fn print_case<W: Write>(out: &mut W, case: Case) -> io::Result<()> {
+    let a = case.quat(1);
+    let b = case.quat(10);
+    let v = case.vector(5);
+    let u = case.vector(14);
     print_operands(out, a, b, v, u)?;
     print_rotations(out, a, b, v)?;
     print_matrix(out, a, v)?;
@@ -70,14 +58,4 @@ fn print_case<W: Write>(out: &mut W, c: u32, tame: bool) -> io::Result<()> {
             rotation: b,
         },
     )
-}
-
-// Each case with every pattern, and tame.
-pub fn print_quats<W: Write>(out: &mut W) -> io::Result<()> {
-    for c in 0..40 {
-        for tame in [false, true] {
-            print_case(out, c, tame)?;
-        }
-    }
-    Ok(())
 }

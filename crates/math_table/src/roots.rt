@@ -1,7 +1,7 @@
 // Roots: at every exponent, around the squares of the 12-bit numbers, and of zeros, infinities, NaNs
 // and negative numbers.
 use crate::line::print_line;
-use crate::patterns::first_with;
+use crate::patterns::{beside, first_with};
 use math::bits::{bits_of, float_of};
 use math::root::root;
 use std::io;
@@ -55,10 +55,10 @@ pub fn print_fields<W: Write>(out: &mut W) -> io::Result<()> {
 // The square of a 12-bit number, and the floats beside it.
 fn print_square<W: Write>(out: &mut W, n: u16) -> io::Result<()> {
     let x = f32::from(n);
-    let bits = bits_of(x * x);
-    print_root(out, bits.wrapping_sub(1))?;
-    print_root(out, bits)?;
-    print_root(out, bits.wrapping_add(1))
+    for bits in beside(bits_of(x * x)) {
+        print_root(out, bits)?;
+    }
+    Ok(())
 }
 
 pub fn print_squares<W: Write>(out: &mut W) -> io::Result<()> {

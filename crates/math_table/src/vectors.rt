@@ -1,7 +1,7 @@
 // What is done to vectors: the operands in a line, then the results.
 use crate::line::{print_float, print_line, print_vector};
-use crate::patterns::{pattern, value, vector};
-use math::bits::bits_of;
+use crate::patterns::{Case, PATTERNS};
+use math::bits::{bits_of, float_of};
 use math::vec::Vec3;
 use std::io;
 use std::io::Write;
@@ -22,10 +22,10 @@ fn print_products<W: Write>(out: &mut W, a: Vec3, b: Vec3, k: f32) -> io::Result
     print_vector(out, "reject_from_normalized", a.reject_from_normalized(b))
 }
 
-fn print_case<W: Write>(out: &mut W, c: u32, tame: bool) -> io::Result<()> {
-    let a = vector(c, tame, 1);
-    let b = vector(c, tame, 6);
-    let k = value(c, tame, 11);
+pub fn print_case<W: Write>(out: &mut W, case: Case) -> io::Result<()> {
+    let a = case.vector(1);
+    let b = case.vector(6);
+    let k = case.value(11);
     let words = [
         bits_of(a.x),
         bits_of(a.y),
@@ -40,16 +40,6 @@ fn print_case<W: Write>(out: &mut W, c: u32, tame: bool) -> io::Result<()> {
     print_products(out, a, b, k)
 }
 
-// Each case with every pattern, and tame.
-pub fn print_vectors<W: Write>(out: &mut W) -> io::Result<()> {
-    for c in 0..40 {
-        for tame in [false, true] {
-            print_case(out, c, tame)?;
-        }
-    }
-    Ok(())
-}
-
 // The maximum is the length, or its opposite: the vector is kept.
 fn print_kept<W: Write>(out: &mut W, x: f32) -> io::Result<()> {
     let r = Vec3::new(x, 0.0, 0.0).clamp_length_max(x);
@@ -61,8 +51,8 @@ fn print_kept<W: Write>(out: &mut W, x: f32) -> io::Result<()> {
 }
 
 pub fn print_lengths_kept<W: Write>(out: &mut W) -> io::Result<()> {
-    for k in 0..31 {
-        print_kept(out, pattern(k))?;
+    for pattern in PATTERNS {
+        print_kept(out, float_of(pattern))?;
     }
     Ok(())
 }

@@ -1,7 +1,7 @@
 -- Pruning by the code's structs is the rule's: the kept numbers are points', and the points picked by them are the rule's. Assumes nothing.
 use Rattle.std.specs.Prelude.{◌≡◌, Bool, false, set, take, Option, None, Some}
 use Rattle.std.proofs.Math.Path.{refl, sym, ap, subst}
-use Rattle.std.proofs.Common.{◌∙◌, eq-or-lt_of_le, arith, inl, inr, get_or-set_same, get_or-set_other}
+use Rattle.std.proofs.Common.{◌∙◌, eq-or-lt_of_le, arith, inl, inr, get_or-set_same, get_or-set_other, length-take-le}
 use Prim.Native.Nat.{ℕ, zero, suc, ◌+◌, ◌≤◌, ◌<◌}
 use Rattle.std.proofs.Math.Bool.{true}
 use mathlib.Core.List.{List, [], ◌∷◌, ◌++◌, map}
@@ -15,11 +15,12 @@ use Rattle.rules.specs.Pruning as rules
 use Rattle.rules.specs.Records.{Point}
 use Rattle.rule_laws.specs.PruningLaws.{point1_below, point2_below, point3_below, point4_below, kept_same}
 use Rattle.contact_types.specs.Pruned.{prune_point_of, point_by, kept_of}
+use Rattle.contact_types.specs.PruneEndLaws.{kept_front}
 use Rattle.contact_types.specs.Views.{point_of}
 use Rattle.contact_types.specs.declared.contact_point.ContactPoint.{ContactPoint}
 use Rattle.contact_types.specs.declared.pruning.KeptPoints.{KeptPoints}
 use Rattle.contact_types.specs.declared.pruning.PrunePoint.{PrunePoint}
-use Rattle.rules.specs.Limits.{proposed_points}
+use Rattle.rules.specs.Limits.{proposed_points, stored_points}
 use Rattle.narrow_phase.specs.Keeping.{Viewed, KeptNumbers, PlaceOf, Picked, PickedKept}
 use Rattle.narrow_phase.specs.ListLaws.{view_at, length_view, in_range_lem, four_first, none_below, one_below}
 use Rattle.narrow_phase.specs.Views.{first_points, PrunedTo}
@@ -53,6 +54,13 @@ module _ (normal : Vec3) (count : ℕ) (p : ℕ → rules.Projected) where
 pub kept_below : (normal : Vec3) (count : ℕ) (point : ℕ → rules.PrunePoint) → AllBelow count (rules.kept normal count point)
 unfolding rules.kept
 kept_below normal count point = let p : ℕ → rules.Projected = λ k. rules.projected normal (point k) in from_below normal count p (rules.point1 count p) refl
+
+-- those kept of an array's first points, lent as a slice
+pub front_numbers : (normal : Vec3) (n : ℕ) (view : List PrunePoint) {k : KeptPoints} → n ≤ length view → KeptNumbers normal (length (take n view)) (take n view) k → KeptNumbers normal n view k
+front_numbers normal n view {k} l b =
+    let e : length (take n view) ≡ n = length-take-le n view l in
+    let c = subst (λ (m : ℕ). KeptNumbers normal m (take n view) k) e b in
+    record { few = c.few; many = λ h. b.many (subst (λ (m : ℕ). stored_points < m) (sym e) h) ∙ kept_front normal view n l; most = b.most }
 
 -- ---- what pruning looks at: one more point, if it counts
 pub view_both : (points : List ContactPoint) (view : List PrunePoint) (c : ℕ) (p : ContactPoint) {q : PrunePoint} {one : ℕ}

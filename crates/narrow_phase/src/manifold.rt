@@ -31,7 +31,6 @@ use manifold_records::point::{store_listed, store_point};
 use manifold_records::zeros::store_zeros;
 use math::bits::bits_of;
 use math::vec::Vec3;
-use proposals::proposal::load_proposed_point;
 use words::load::load;
 use words::row::store_words;
 
@@ -43,6 +42,7 @@ pub struct ManifoldPoints {
 }
 
 // The proposed point at a place, moved, if it stays.
+#[tactic(auto, using(proposals::specs::LoadedLaws::proposed_point_seen))]
 fn staying_point(
     filtering: &Filtering,
     words: &[u32],
@@ -52,8 +52,8 @@ fn staying_point(
     requires { at + proposed_point_size ≤ length words.now }
     ensures { StaysAs filtering.now (moved_by filtering.now normal (proposed_point_at words.now at)) result }
 {
-    let p = filtering.moved_point(normal, load_proposed_point(words, at));
-    if filtering.stays(&p) { Some(p) } else { None }
+    let p = filtering.moved_point(normal, load(words, at));
+    filtering.stays(&p).then_some(p)
 }
 
 // What pruning looks at in a point.
@@ -67,20 +67,20 @@ fn prune_point(p: ContactPoint) -> PrunePoint
 }
 
 // Four points or fewer are kept as they are, more are pruned.
-fn kept_numbers(view: [PrunePoint; PROPOSED_POINTS], count: usize, normal: Vec3) -> KeptPoints
-    requires { count ≤ proposed_points }
-    ensures { KeptNumbers normal count view result }
+fn kept_numbers(view: &[PrunePoint], normal: Vec3) -> KeptPoints
+    requires { length view.now ≤ proposed_points }
+    ensures { KeptNumbers normal (length view.now) view.now result }
 {
-    if count <= STORED_POINTS {
+    if view.len() <= STORED_POINTS {
         return KeptPoints {
-            count: count as u32,
+            count: view.len() as u32,
             first: 0,
             second: 1,
             third: 2,
             fourth: 3,
         };
     }
-    prune_points(&view[..count], normal)
+    prune_points(view, normal)
 }
 
 // A point's place in the array. No point has a number past the array's.
@@ -91,7 +91,7 @@ fn place_of(i: u32) -> usize
 }
 
 // The n points from a place on; of those that stay, the ones that are kept.
-// The arrays stay in one function: passed by value they would be copied.
+// The points stay in one function: passed by value they would be copied.
 fn kept_points(
     filtering: &Filtering,
     words: &[u32],
@@ -113,7 +113,7 @@ fn kept_points(
             count += 1;
         }
     }
-    let kept = kept_numbers(view, count, normal);
+    let kept = kept_numbers(&view[..count], normal);
     ManifoldPoints {
         points: [
             points[place_of(kept.first)],

@@ -2,8 +2,7 @@
 ghost use Rattle.std.specs.Prelude.{◌≡◌, ◌+◌, ◌≤◌, ◌<◌, length};
 ghost use Rattle.layout.specs.Proposal.{proposal_size, proposed_point_size};
 ghost use Rattle.proposals.specs.Range.{proposal_fits, hook_fits};
-ghost use Rattle.proposals.specs.Recorded.{proposed_point_at};
-ghost use Rattle.proposals.specs.Views.{proposed_of};
+ghost use Rattle.proposals.specs.Views.{recorded_proposed_point};
 
 use contact_types::feature_id::PackedFeatureId;
 use layout::limits::{MANIFOLDS, PROPOSED_POINTS};
@@ -13,7 +12,7 @@ use layout::proposal::{
     PROPOSED_POINT_POSITION,
 };
 use math::vec::Vec3;
-use words::load::load;
+use words::load::{FromRow, load};
 use words::row::mark_fits;
 
 // What a shape proposes.
@@ -27,18 +26,21 @@ pub struct ProposedPoint {
     pub feature_id2: PackedFeatureId,
 }
 
-#[tactic(auto, unfolding(crate::specs::Recorded::proposed_point_at))]
-pub fn load_proposed_point(words: &[u32], at: usize) -> ProposedPoint
-    requires { at + proposed_point_size ≤ length words.now }
-    ensures { proposed_of result ≡ proposed_point_at words.now at }
-{
-    ProposedPoint {
-        anchor1: load(words, at),
-        anchor2: load(words, at + PROPOSED_POINT_ANCHOR2),
-        point: load(words, at + PROPOSED_POINT_POSITION),
-        penetration: load(words, at + PROPOSED_POINT_PENETRATION),
-        feature_id1: PackedFeatureId(load::<u32>(words, at + PROPOSED_POINT_FEATURES)),
-        feature_id2: PackedFeatureId(load::<u32>(words, at + PROPOSED_POINT_FEATURE2)),
+impl FromRow for ProposedPoint {
+    ghost size = { proposed_point_size };
+
+    ghost at = { recorded_proposed_point };
+
+    #[tactic(auto, unfolding(crate::specs::Views::recorded_proposed_point))]
+    fn from_row(row: &[u32], from: usize) -> ProposedPoint {
+        ProposedPoint {
+            anchor1: load(row, from),
+            anchor2: load(row, from + PROPOSED_POINT_ANCHOR2),
+            point: load(row, from + PROPOSED_POINT_POSITION),
+            penetration: load(row, from + PROPOSED_POINT_PENETRATION),
+            feature_id1: load(row, from + PROPOSED_POINT_FEATURES),
+            feature_id2: load(row, from + PROPOSED_POINT_FEATURE2),
+        }
     }
 }
 
@@ -52,6 +54,7 @@ pub fn hook_fits(words: &[u32], at: usize) -> bool
 }
 
 // At most as many manifolds as a pair has, and in each that is counted at most as many points as are proposed for one.
+#[tactic(auto, unfolding(crate::specs::Range::proposal_fits))]
 pub fn proposal_fits(words: &[u32], at: usize) -> bool
     requires { at + proposal_size ≤ length words.now }
     ensures { result ≡ proposal_fits words.now at }

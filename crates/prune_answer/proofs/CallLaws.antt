@@ -42,12 +42,12 @@ unreadable_answer text {row} {r} w e = refused_one (listing text) (sym e ∙ w.a
 
 -- the refusal that is made of it, as `?` hands it on
 pub unreadable_refused : (text : List ℕ) {row : List ℕ} {r : Option Header} (e : Refusal) (o : Result KeptPoints Refusal) → ListingRead text zeros row r → r ≡ None
-    → ◌≡◌ {A = Result Header Refusal} (Err e) (ok_or r WrongLength) → IsErrAnd o (λ x. x ≡ e) → (plain_answer o ≡ listing_answer (listing text)) × IfOk o (λ kept. kept.count ≤ 4)
+    → ◌≡◌ {A = Result Header Refusal} (Err e) (ok_or r WrongLength) → IsErrAnd o (λ x. x ≡ e) → plain_answer o ≡ listing_answer (listing text)
 unreadable_refused text e (Ok kept) w n p h = absurd h
 unreadable_refused text e (Err x) w n p h =
     let q : ◌≡◌ {A = Result Header Refusal} (Err e) (Err WrongLength) = p ∙ ap (λ (o : Option Header). ok_or o WrongLength) n in
     let f : x ≡ WrongLength = cc in
-    (rw f (unreadable_answer text w n), tt)
+    rw f (unreadable_answer text w n)
 
 -- a text that was read: the answer of `prune` is its answer
 pub read_answer : (text : List ℕ) {row : List ℕ} {r : Option Header} (h : Header) → ListingRead text zeros row r → r ≡ Some h

@@ -10,13 +10,18 @@ ghost use Rattle.prune_answer.specs.Answer.{Below, Answered, listing_answer};
 use contact_types::prune::prune;
 use contact_types::pruning::KeptPoints;
 use contact_types::refusal::Refusal;
+use layout::limits::STORED_POINTS;
 use layout::prune::PRUNE_POINTS_LENGTH;
 use math::vec::Vec3;
 use prune_listing::reader::read_listing;
 use prune_listing::writer::{write_kept, write_refused};
 use words::load::load;
 
+// A line of at most six bytes for each point that is kept.
+pub const ANSWER_LENGTH: usize = 6 * STORED_POINTS;
+
 // What pruning answers to the points of a text. An unreadable text is refused as a row of another length is.
+#[tactic(auto, using(crate::proofs::CallLaws::pruned_answer, crate::proofs::CallLaws::few_kept))]
 fn prune_text(text: &[u8]) -> Result<KeptPoints, Refusal>
     ensures answer { plain_answer result ≡ listing_answer (listing text.now) }
     ensures few { IfOk result (λ kept. kept.count ≤ 4) }
@@ -27,6 +32,7 @@ fn prune_text(text: &[u8]) -> Result<KeptPoints, Refusal>
 }
 
 // A line for each kept number.
+#[tactic(auto, using(crate::specs::WriteLaws::lines_none, crate::specs::WriteLaws::next_fits, crate::specs::WriteLaws::lines_all))]
 fn write_all_kept(out: &mut [u8], numbers: &[u32]) -> usize
     requires room { 6 * length numbers.now ≤ length out.old }
     requires small { Below 1000 numbers.now }
@@ -40,7 +46,7 @@ fn write_all_kept(out: &mut [u8], numbers: &[u32]) -> usize
 }
 
 // The answer to a text, in the first bytes of out. The result is how many there are.
-pub fn answer(text: &[u8], out: &mut [u8; 24]) -> usize
+pub fn answer(text: &[u8], out: &mut [u8; ANSWER_LENGTH]) -> usize
     ensures { Answered text.now out.old out.new result }
 {
     match prune_text(text) {

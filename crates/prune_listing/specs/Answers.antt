@@ -1,10 +1,10 @@
 -- What the code's answers say of a text. Definitions only.
-use Rattle.std.specs.Prelude.{◌≡◌, ℕ, ◌+◌, ◌-◌, ◌*◌, Bool, true, false, List, length, take, None, Some, Option}
+use Rattle.std.specs.Prelude.{◌≡◌, ℕ, ◌+◌, ◌-◌, ◌*◌, Bool, true, false, List, length, take, drop, None, Some, Option}
 use Rattle.rows.specs.Rows.{put, each}
 use Rattle.text.specs.Text.{Taken}
 use Rattle.layout.specs.Prune.{prune_point_size}
 use Rattle.rules.specs.Limits.{proposed_points}
-use Rattle.prune_listing.specs.Listing.{Listing, listing}
+use Rattle.prune_listing.specs.Listing.{all_points, Listing, listing}
 use Rattle.prune_listing.specs.declared.reader.Header.{Header}
 
 -- ---- `read_listing`: the promise
@@ -28,6 +28,20 @@ pub record ListingRead (text row row' : List ℕ) (r : Option Header) : Type 0 w
   pub stored : row' ≡ points_of row (listing text)
 
 -- ---- its parts
+
+-- the bytes of a line of n fields with its end, of the first line, and of each other
+abbrev pub line_bytes : ℕ → ℕ
+line_bytes n = 2 + 9 * n
+
+abbrev pub normal_bytes : ℕ
+normal_bytes = line_bytes 3
+
+abbrev pub point_bytes : ℕ
+point_bytes = line_bytes prune_point_size
+
+-- the points of a whole text, which its first line stands before
+abbrev pub points_in : List ℕ → Option (List (List ℕ))
+points_in xs = all_points (drop normal_bytes xs)
 
 abbrev pub taken_end : Bool → List ℕ → Option (List ℕ)
 taken_end true rest = Some rest

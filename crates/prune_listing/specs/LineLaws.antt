@@ -5,10 +5,10 @@ use Rattle.std.proofs.Common.{sym, ap, ◌∙◌, not-suc-le-zero, zero-add, add
 use Rattle.std.proofs.Math.Numerals.{unary_clauses}
 use Rattle.std.proofs.Math.Seq.{take-set-le}
 use Rattle.text.specs.Text.{Taken, after}
-use Rattle.text.specs.Answers.{Stands}
-use Rattle.text.specs.TextLaws.{expect_same, expect_not}
+use Rattle.text.specs.Answers.{Stands, ByteRead}
+use Rattle.text.specs.TextLaws.{expect_read, expect_not}
 use Rattle.prune_listing.specs.Listing.{field, fields, line_end, line, point_line, at_end, point_lines}
-use Rattle.prune_listing.specs.Answers.{taken_end, taken_words}
+use Rattle.prune_listing.specs.Answers.{line_bytes, point_bytes, taken_end, taken_words}
 
 -- ---- fields
 
@@ -86,21 +86,21 @@ module _ (letter n : ℕ) (xs : List ℕ) (at : ℕ) where
   unfolding line
   no_letter h = rw (expect_not letter (fields n) xs at h)
 
-  module _ (s : Stands xs at letter) where
-    line_fields : line letter n (drop at xs) ≡ after (fields n (drop (at + 1) xs)) (λ words. after (line_end words.rest) (λ rest. Some (record { value = words.value; rest = rest })))
+  module _ (start : ℕ) (s : ByteRead xs at letter (Some start)) where
+    line_fields : line letter n (drop at xs) ≡ after (fields n (drop start xs)) (λ words. after (line_end words.rest) (λ rest. Some (record { value = words.value; rest = rest })))
     unfolding line
-    line_fields = rw (expect_same letter (fields n) xs at s.0 s.1)
+    line_fields = rw (expect_read letter (fields n) xs at start s)
 
-    pub no_fields : fields n (drop (at + 1) xs) ≡ None → line letter n (drop at xs) ≡ None
+    pub no_fields : fields n (drop start xs) ≡ None → line letter n (drop at xs) ≡ None
     no_fields e = line_fields ∙ rw e
 
-    pub line_read : (words : List ℕ) (ends : Bool) → fields n (drop (at + 1) xs) ≡ Some (record { value = words; rest = drop (at + 1 + 9 * n) xs })
-        → line_end (drop (at + 1 + 9 * n) xs) ≡ taken_end ends (drop (at + 1 + 9 * n + 1) xs) → line letter n (drop at xs) ≡ taken_words (then_some ends words) (drop (at + (2 + 9 * n)) xs)
+    pub line_read : (words : List ℕ) (ends : Bool) → fields n (drop start xs) ≡ Some (record { value = words; rest = drop (start + 9 * n) xs })
+        → line_end (drop (start + 9 * n) xs) ≡ taken_end ends (drop (start + 9 * n + 1) xs) → line letter n (drop at xs) ≡ taken_words (then_some ends words) (drop (at + line_bytes n) xs)
     line_read words ends e f =
-        let m : at + 1 + 9 * n + 1 ≡ at + (2 + 9 * n) = omega arith in
+        let m : start + 9 * n + 1 ≡ at + line_bytes n = omega (arith, s.1) in
         line_fields ∙ rw (e, f, m) (ended ends)
       where
-        ended : (t : Bool) → after (taken_end t (drop (at + (2 + 9 * n)) xs)) (λ rest. Some (record { value = words; rest = rest })) ≡ taken_words (then_some t words) (drop (at + (2 + 9 * n)) xs)
+        ended : (t : Bool) → after (taken_end t (drop (at + line_bytes n) xs)) (λ rest. Some (record { value = words; rest = rest })) ≡ taken_words (then_some t words) (drop (at + line_bytes n) xs)
         ended true = refl
         ended false = refl
 
@@ -125,9 +125,9 @@ lines_at (suc m) xs at p h = rw (drop-cons xs at 0 h) (simp unary_clauses)
 pub points_bad : (m : ℕ) (xs : List ℕ) (at : ℕ) → 0 < m → at < length xs → point_line (drop at xs) ≡ None → point_lines m (drop at xs) ≡ None
 points_bad m xs at p h e = lines_at m xs at p h ∙ rw e
 
-pub points_next : (m : ℕ) (xs : List ℕ) (at : ℕ) (p : List ℕ) → 0 < m → at < length xs → point_line (drop at xs) ≡ Some (record { value = p; rest = drop (at + 38) xs })
-    → point_lines m (drop at xs) ≡ first p (point_lines (m - 1) (drop (at + 38) xs))
-points_next m xs at p l h e = lines_at m xs at l h ∙ rw e (joined (point_lines (m - 1) (drop (at + 38) xs)))
+pub points_next : (m : ℕ) (xs : List ℕ) (at : ℕ) (p : List ℕ) → 0 < m → at < length xs → point_line (drop at xs) ≡ Some (record { value = p; rest = drop (at + point_bytes) xs })
+    → point_lines m (drop at xs) ≡ first p (point_lines (m - 1) (drop (at + point_bytes) xs))
+points_next m xs at p l h e = lines_at m xs at l h ∙ rw e (joined (point_lines (m - 1) (drop (at + point_bytes) xs)))
   where
     joined : (o : Option (List (List ℕ))) → after o (λ others. Some (p ∷ others)) ≡ first p o
     joined None = refl

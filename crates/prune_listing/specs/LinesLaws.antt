@@ -62,8 +62,8 @@ rest_written out at bytes {rest} {r} h w =
     }
 
 -- a letter, a tab, the digits, a line feed
-pub line_written : (letter n : ℕ) {before lettered numbered ended : List ℕ} {p q r : ℕ} → n < 1000
-    → Written before 0 (letter ∷ 9 ∷ []) lettered p → Written lettered p (decimal_text n) numbered q → Written numbered q (10 ∷ []) ended r → Written before 0 (number_line letter n) ended r
+pub line_written : (letter n : ℕ) {before lettered numbered ended : List ℕ} {at p q r : ℕ} → n < 1000
+    → Written before at (letter ∷ 9 ∷ []) lettered p → Written lettered p (decimal_text n) numbered q → Written numbered q (10 ∷ []) ended r → Written before at (number_line letter n) ended r
 line_written letter n h u v w =
     rw (decimal_same n h) (written_then (letter ∷ 9 ∷ []) (decimal_text n ++ 10 ∷ []) u (written_then (decimal_text n) (10 ∷ []) v w))
 

@@ -6,7 +6,7 @@ use Rattle.rows.specs.Rows.{each}
 use Rattle.rows.specs.Laws.{length_put}
 use Rattle.text.specs.Text.{after}
 use Rattle.prune_listing.specs.Listing.{normal_line, all_points, Listing, longest, listing}
-use Rattle.prune_listing.specs.Answers.{room, reading_of, points_of, ListingRead, count_from, stored_from}
+use Rattle.prune_listing.specs.Answers.{room, normal_bytes, points_in, reading_of, points_of, ListingRead, count_from, stored_from}
 use Rattle.prune_listing.specs.declared.reader.Header.{Header}
 
 -- the listing of the normal and the points
@@ -25,22 +25,22 @@ module _ (xs row : List ℕ) (short : length xs ≤ longest) where
   unfolding listing
   no_normal e = unread xs row (rw (le-leb (length xs) longest short, e))
 
-  module _ (v : List ℕ) (normal : normal_line xs ≡ Some (record { value = v; rest = drop 29 xs })) where
-    lines_read : listing xs ≡ whole v (all_points (drop 29 xs))
+  module _ (v : List ℕ) (normal : normal_line xs ≡ Some (record { value = v; rest = drop normal_bytes xs })) where
+    lines_read : listing xs ≡ whole v (points_in xs)
     unfolding listing
     lines_read = rw (le-leb (length xs) longest short, normal)
 
-    pub no_points : None ≡ count_from 0 (all_points (drop 29 xs)) → ListingRead xs row row None
-    no_points e = unread xs row (lines_read ∙ none_read (all_points (drop 29 xs)) e)
+    pub no_points : None ≡ count_from 0 (points_in xs) → ListingRead xs row row None
+    no_points e = unread xs row (lines_read ∙ none_read (points_in xs) e)
       where
         none_read : (o : Option (List (List ℕ))) → None ≡ count_from 0 o → whole v o ≡ None
         none_read None e = refl
         none_read (Some points) e = let z : ◌≡◌ {A = ℕ} 0 1 = cc in absurd (omega arith)
 
-    pub all_read : (row' : List ℕ) (n : ℕ) → Some n ≡ count_from 0 (all_points (drop 29 xs)) → row' ≡ stored_from row 0 (all_points (drop 29 xs))
+    pub all_read : (row' : List ℕ) (n : ℕ) → Some n ≡ count_from 0 (points_in xs) → row' ≡ stored_from row 0 (points_in xs)
         → ListingRead xs row row' (Some (record { normal = v; count = n }))
     all_read row' n e s =
-        let w = read (all_points (drop 29 xs)) e s in
+        let w = read (points_in xs) e s in
         record { answer = w.0 ∙ sym (ap reading_of lines_read); stored = w.1 ∙ sym (ap (points_of row) lines_read) }
       where
         read : (o : Option (List (List ℕ))) → Some n ≡ count_from 0 o → row' ≡ stored_from row 0 o

@@ -2,8 +2,8 @@
 use Rattle.std.specs.Prelude.{◌≡◌, refl, ℕ, suc, ◌+◌, ◌≤◌, ◌<◌, Bool, true, false, cond, eqb, List, length, get_or, drop, Option, None, Some}
 use Rattle.std.proofs.Common.{ap, ◌∙◌, add-one, arith, drop_of_length-le, drop-cons}
 use Rattle.text.specs.Text.{word}
-use Rattle.text.specs.Answers.{Stands, taken_word, WordRead}
-use Rattle.text.specs.TextLaws.{expect_same, expect_not}
+use Rattle.text.specs.Answers.{Stands, ByteRead, taken_word, WordRead}
+use Rattle.text.specs.TextLaws.{expect_read, expect_not}
 use Rattle.prune_listing.specs.Listing.{field, line_end}
 use Rattle.prune_listing.specs.Answers.{taken_end}
 
@@ -19,12 +19,12 @@ field_end xs at h = no_field xs at (λ s. let l = s.0 in omega arith)
 pub field_other : (xs : List ℕ) (at : ℕ) → at < length xs → (get_or xs at 0 ≡ 9 → ⊥) → field (drop at xs) ≡ None
 field_other xs at h e = no_field xs at (λ s. e s.1)
 
-pub field_tab : (xs : List ℕ) (at : ℕ) (r : Option ℕ) → Stands xs at 9 → WordRead xs (at + 1) r
+pub field_tab : (xs : List ℕ) (at start : ℕ) (r : Option ℕ) → ByteRead xs at 9 (Some start) → WordRead xs start r
     → field (drop at xs) ≡ taken_word r (drop (at + 9) xs)
 unfolding field
-field_tab xs at r s w =
-    let f : at + 1 + 8 ≡ at + 9 = omega arith in
-    expect_same 9 word xs at s.0 s.1 ∙ w.read ∙ ap (λ (n : ℕ). taken_word r (drop n xs)) f
+field_tab xs at start r s w =
+    let f : start + 8 ≡ at + 9 = omega (arith, s.1) in
+    expect_read 9 word xs at start s ∙ w.read ∙ ap (λ (n : ℕ). taken_word r (drop n xs)) f
 
 -- ---- the end of a line
 
@@ -41,3 +41,9 @@ line_end_at xs at h = rw (drop-cons xs at 0 h, add-one) (picked (eqb (get_or xs 
     picked : (t : Bool) (ys : List ℕ) → cond t (Some ys) None ≡ taken_end t ys
     picked true ys = refl
     picked false ys = refl
+
+-- ---- for the search, by function
+
+pub ruleset field_laws = (no_field, field_tab)
+
+pub ruleset end_laws = (line_end_past, line_end_at)

@@ -4,25 +4,24 @@ ghost use Rattle.text.specs.Answers.{taken_word};
 ghost use Rattle.prune_listing.specs.Listing.{field, line_end};
 ghost use Rattle.prune_listing.specs.Answers.{taken_end};
 
-use text::reader::{byte_is, read_word};
+use text::reader::{expect, read_word};
+
+// The bytes of a tab and a word.
+pub const FIELD: usize = 9;
 
 // A tab and a word.
-#[tactic(auto, using(crate::specs::WordLaws::no_field, crate::specs::WordLaws::field_tab))]
+#[tactic(auto, using(crate::specs::WordLaws::field_laws))]
 pub fn read_field(text: &[u8], at: usize) -> Option<u32>
     ensures { field (drop at text.now) ≡ taken_word result (drop (at + 9) text.now) }
 {
-    if !byte_is(text, at, b'\t') {
-        return None;
-    }
-    read_word(text, at + 1)
+    let word = expect(text, at, b'\t')?;
+    read_word(text, word)
 }
 
 // Whether a line ends there: at a line feed, or with the text.
+#[tactic(auto, using(crate::specs::WordLaws::end_laws))]
 pub fn line_ends(text: &[u8], at: usize) -> bool
     ensures { line_end (drop at text.now) ≡ taken_end result (drop (at + 1) text.now) }
 {
-    if at >= text.len() {
-        return true;
-    }
-    text[at] == b'\n'
+    text.get(at).is_none_or(|b| *b == b'\n')
 }

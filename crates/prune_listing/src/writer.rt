@@ -3,17 +3,25 @@ ghost use Rattle.std.specs.Prelude.{◌+◌, ◌≤◌, ◌<◌, length};
 ghost use Rattle.prune_listing.specs.Lines.{number_line, kept_line, refused_line};
 ghost use Rattle.text.specs.Text.{Written};
 
-use text::writer::{write_byte, write_bytes, write_decimal};
+use text::writer::Writer;
 
-// A letter, a tab, the number, a line feed. The result is the place after them, as it is of each function here.
+// A letter, a tab, the number, a line feed, at a row's front: apart from the next, since of a `Writer` over a part of a row no proof closed that says what the row holds afterwards. The result is the place after them, as it is of each function here.
+fn write_front(out: &mut [u8], letter: u8, n: u32) -> usize
+    requires { n < 1000 }
+    ensures { Written out.old 0 (number_line letter n) out.new result }
+{
+    let mut line = Writer::new(out, 0);
+    line.write_bytes(&[letter, b'\t']);
+    line.write_decimal(n);
+    line.write_byte(b'\n');
+    line.place()
+}
+
 fn write_number(out: &mut [u8], at: usize, letter: u8, n: u32) -> usize
     requires { (n < 1000) × (at + 6 ≤ length out.old) }
     ensures { Written out.old at (number_line letter n) out.new result }
 {
-    let line = &mut out[at..];
-    let digits = write_bytes(line, 0, &[letter, b'\t']);
-    let end = write_decimal(line, digits, n);
-    at + write_byte(line, end, b'\n')
+    at + write_front(&mut out[at..], letter, n)
 }
 
 pub fn write_kept(out: &mut [u8], at: usize, index: u32) -> usize

@@ -2,14 +2,10 @@
 // tests/prunelist_cases.py made it, and the files of data/, from the specification alone ('Prune listing', 'Matching and pruning').
 #![tactic(auto)]
 
-use prune_answer::answer::answer;
+use prune_answer::output::print_read;
 use std::fs::File;
 use std::io;
-use std::io::{Read, Write};
 use std::rt::Files;
-
-// One byte more than is read: a text that fills it is too long.
-const MOST_READ: u64 = 65537;
 
 const NAMES: [&str; 21] = [
     "c1",
@@ -41,12 +37,8 @@ fn print_case<R: Files + AllocGlobal + Print + Eprint>(rt: &R, name: &str) -> io
         Ok(file) => file,
         Err(e) => return eprintln!(rt; "{name}: {e}"),
     };
-    let mut text = Vec::new(rt.alloc());
-    file.take(MOST_READ).read_to_end(&mut text)?;
-    let mut out = [0u8; 24];
-    let m = answer(text.as_slice(), &mut out);
     println!(rt; "{name}")?;
-    rt.write_all(&out[..m])
+    print_read(rt.alloc(), file, &mut io::writer(rt))
 }
 
 fn main(rt: HostRuntime) -> io::Result<()> {

@@ -1,5 +1,5 @@
 // Pairs of neighbours: all at the start, and then each that is near. One that stands already is refused.
-use crate::places::position;
+use crate::places::{UPPERMOST, position};
 use case_draws::draws::slot;
 use contact_graph::add::add;
 use contact_graph::call::Request;
@@ -31,7 +31,7 @@ fn near(bodies: &[u32], below: u32, step: u32) -> bool {
 
 // The answer is not looked at.
 pub fn add_near(graph: &mut [u32], bodies: &[u32], step: u32) {
-    for below in 0..8 {
+    for below in 0..UPPERMOST {
         if near(bodies, below, step) {
             let _ = add(graph, request(below));
         }

@@ -2,7 +2,7 @@
 // body of its number. Every box is a cube of side 1; the floor is ten wide, with its top at 0.
 ghost use Rattle.std.specs.Prelude.{◌<◌};
 
-use crate::places::{BOXES, body_at, collider_at, position};
+use crate::places::{BOXES, position};
 use case_draws::draws::{past, pick};
 use case_draws::numbers::{
     BODY_CENTER_OF_MASS, BODY_FRICTION, BODY_MARGIN, BODY_POSITION, BODY_PRESENT, BODY_SIZE,
@@ -13,7 +13,7 @@ use case_draws::numbers::{
     SETTINGS_LENGTH_UNIT, SETTINGS_MATCH_CONTACTS, SETTINGS_MATCHING, SETTINGS_RECYCLE_COSINE,
     SETTINGS_RECYCLE_DISTANCE, SETTINGS_RESTITUTION, SETTINGS_STEP_TIME,
 };
-use case_draws::places::fill;
+use case_draws::places::{fill, fill_nth};
 use math::bits::bits_of;
 
 // The middles' heights at the start: -0.5, 0.53, 1.83, 2.89, 4.04, 5.04, 6.54, 7.63, 8.65.
@@ -151,7 +151,7 @@ fn body_word(n: u32, i: u32) -> u32 {
 
 pub fn fill_colliders(colliders: &mut [u32], bodies: &[u32], step: u32) {
     for n in 0..BOXES {
-        fill(colliders, collider_at(n, 0), COLLIDER_SIZE, |i| {
+        fill_nth(colliders, n, COLLIDER_SIZE, |i| {
             collider_word(bodies, n, i, step)
         });
     }
@@ -159,6 +159,6 @@ pub fn fill_colliders(colliders: &mut [u32], bodies: &[u32], step: u32) {
 
 pub fn fill_bodies(bodies: &mut [u32]) {
     for n in 0..BOXES {
-        fill(bodies, body_at(n, 0), BODY_SIZE, |i| body_word(n, i));
+        fill_nth(bodies, n, BODY_SIZE, |i| body_word(n, i));
     }
 }

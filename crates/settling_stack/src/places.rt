@@ -1,21 +1,20 @@
-// The places of the records in the lent rows.
+// The lengths of the lent rows, and the places of the bodies' words.
 use case_draws::draws::slot;
 use case_draws::numbers::{
-    BODY_POSITION, BODY_SIZE, CHANGE_SIZE, COLLIDER_SIZE, CONTACT_SIZE, EVENT_SIZE,
-    GRAPH_CONTACT_SIZE, GRAPH_IDS, GRAPH_LIST, MOST_WORKERS, PROPOSAL_SIZE, SHARES_ENTRIES,
+    BODY_POSITION, BODY_SIZE, CHANGE_SIZE, EVENT_SIZE, GRAPH_CONTACT_SIZE, GRAPH_LIST,
+    MOST_WORKERS, PROPOSAL_SIZE, SHARES_ENTRIES,
 };
-use case_draws::places::{put, word};
-use layout::limits::{BODIES, COLLIDERS};
+use case_draws::places::{nth_place, put, word};
 use math::bits::{bits_of, float_of};
 
 pub const CAPACITY: u32 = 64;
 
-// The floor and the boxes.
+// The floor and the boxes, and the number of the uppermost.
 pub const BOXES: u32 = 9;
 
-// Where the records begin, and the lengths of the rows that the capacity asks for. Of bits there is a word for each worker.
-const RECORDS_PLACE: u32 = GRAPH_LIST + GRAPH_IDS * CAPACITY;
+pub const UPPERMOST: u32 = BOXES - 1;
 
+// What the capacity asks for. Of bits there is a word for each worker.
 pub const GRAPH_LENGTH: usize = (GRAPH_LIST + GRAPH_CONTACT_SIZE * CAPACITY) as usize;
 
 pub const PROPOSALS_LENGTH: usize = (PROPOSAL_SIZE * CAPACITY) as usize;
@@ -30,24 +29,9 @@ pub const CHANGES_LENGTH: usize = (CHANGE_SIZE * CAPACITY) as usize;
 
 pub const DISTANCES_LENGTH: usize = CAPACITY as usize;
 
-// Word i of collider n.
-pub fn collider_at(n: u32, i: u32) -> u32 {
-    n % COLLIDERS * COLLIDER_SIZE + i % COLLIDER_SIZE
-}
-
 // Word i of body n.
 pub fn body_at(n: u32, i: u32) -> u32 {
-    n % BODIES * BODY_SIZE + i % BODY_SIZE
-}
-
-// Word i of the record of a contact.
-pub fn record_at(id: u32, i: u32) -> u32 {
-    RECORDS_PLACE + id % CAPACITY * CONTACT_SIZE + i % CONTACT_SIZE
-}
-
-// Word i of the proposal of a contact.
-pub fn proposal_at(id: u32, i: u32) -> u32 {
-    id % CAPACITY * PROPOSAL_SIZE + i % PROPOSAL_SIZE
+    nth_place(n, BODY_SIZE, i)
 }
 
 // The position of body n along an axis.

@@ -13,6 +13,7 @@ use crate::recorded::touching_pairs;
 use case_draws::graph::listed;
 use case_draws::hash::Hash;
 use case_draws::numbers::{CHANGE_SIZE, EVENT_SIZE};
+use case_draws::places::part;
 use contact_graph::lay_out::lay_out;
 use contact_types::refusal::Refusal;
 use layout::body::BODIES_LENGTH;
@@ -25,7 +26,7 @@ use step::input::StepInput;
 use step::step::step;
 
 // Since the last line: events, changes, contacts recycled, the hashes of the events and of the changes.
-#[derive(Clone, Copy)]
+#[derive(Clone, Copy, Default)]
 struct Tally {
     events: u32,
     changes: u32,
@@ -35,22 +36,14 @@ struct Tally {
 }
 
 impl Tally {
-    const NONE: Self = Tally {
-        events: 0,
-        changes: 0,
-        recycled: 0,
-        event_hash: Hash::START,
-        change_hash: Hash::START,
-    };
-
     fn count(&mut self, report: StepReport, events: &[u32], changes: &[u32]) {
         self.events = self.events.wrapping_add(report.events);
         self.changes = self.changes.wrapping_add(report.changes);
         self.recycled = self.recycled.wrapping_add(report.recycled);
         let event_words = EVENT_SIZE.wrapping_mul(report.events);
         let change_words = CHANGE_SIZE.wrapping_mul(report.changes);
-        self.event_hash.add_words(events, 0, event_words);
-        self.change_hash.add_words(changes, 0, change_words);
+        self.event_hash.add_words(part(events, 0, event_words));
+        self.change_hash.add_words(part(changes, 0, change_words));
     }
 }
 
@@ -71,7 +64,7 @@ impl Stack {
             bodies: [0; BODIES_LENGTH],
             proposals: [0; PROPOSALS_LENGTH],
             graph: [0; GRAPH_LENGTH],
-            tally: Tally::NONE,
+            tally: Tally::default(),
         };
         lay_out(&mut stack.graph, CAPACITY)?;
         fill_bodies(&mut stack.bodies);
@@ -125,10 +118,10 @@ impl Stack {
             change_hash,
         } = self.tally;
         let hash = Hash::of_graph(&self.graph);
-        self.tally = Tally::NONE;
+        self.tally = Tally::default();
         write!(out, "{steps}\t{listed}\t{touching}")?;
-        write!(out, "\t{events}\t{changes}\t{recycled}\t{:08X}", hash.0)?;
-        writeln!(out, "\t{:08X}\t{:08X}", event_hash.0, change_hash.0)
+        write!(out, "\t{events}\t{changes}\t{recycled}\t{hash}")?;
+        writeln!(out, "\t{event_hash}\t{change_hash}")
     }
 }
 

@@ -1,15 +1,15 @@
 // What is proposed to a listed pair: a manifold of four points where its boxes are at most 0.02 apart, at the upper box's lower
 // corners, else none.
-use crate::places::{BOXES, position, proposal_at, record_at};
-use case_draws::draws::{past, slot};
-use case_draws::graph::{listed, listed_id};
+use crate::places::{BOXES, position};
+use case_draws::draws::past;
+use case_draws::graph::{listed_ids, record};
 use case_draws::numbers::{
     CONTACT_COLLIDER1, CONTACT_COLLIDER2, PROPOSAL_COUNT, PROPOSAL_HOOK, PROPOSAL_MANIFOLDS,
-    PROPOSED_MANIFOLD_COUNT, PROPOSED_MANIFOLD_NORMAL, PROPOSED_MANIFOLD_POINTS,
+    PROPOSAL_SIZE, PROPOSED_MANIFOLD_COUNT, PROPOSED_MANIFOLD_NORMAL, PROPOSED_MANIFOLD_POINTS,
     PROPOSED_POINT_ANCHOR1, PROPOSED_POINT_ANCHOR2, PROPOSED_POINT_FEATURES,
     PROPOSED_POINT_PENETRATION, PROPOSED_POINT_POSITION, PROPOSED_POINT_SIZE,
 };
-use case_draws::places::{fill, word};
+use case_draws::places::{fill, nth_place, word};
 use math::bits::bits_of;
 
 // The overlap of the boxes along y.
@@ -103,15 +103,19 @@ fn proposal_word(bodies: &[u32], below: u32, above: u32, i: u32, step: u32) -> u
 
 // As far as the fourth point of the first manifold.
 fn propose(proposals: &mut [u32], graph: &[u32], bodies: &[u32], id: u32, step: u32) {
-    let below = word(graph, record_at(id, CONTACT_COLLIDER1));
-    let above = word(graph, record_at(id, CONTACT_COLLIDER2));
-    fill(proposals, proposal_at(id, 0), CORNERS_END, |i| {
-        proposal_word(bodies, below, above, i, step)
-    });
+    let record = record(graph, id);
+    let below = word(record, CONTACT_COLLIDER1);
+    let above = word(record, CONTACT_COLLIDER2);
+    fill(
+        proposals,
+        nth_place(id, PROPOSAL_SIZE, 0),
+        CORNERS_END,
+        |i| { proposal_word(bodies, below, above, i, step) },
+    );
 }
 
 pub fn fill_proposals(proposals: &mut [u32], graph: &[u32], bodies: &[u32], step: u32) {
-    for p in 0..listed(graph) {
-        propose(proposals, graph, bodies, listed_id(graph, p), step);
+    for &id in listed_ids(graph) {
+        propose(proposals, graph, bodies, id, step);
     }
 }

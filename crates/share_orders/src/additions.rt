@@ -1,5 +1,6 @@
 // Pairs added before a step: eight before the first, else three. Those that stand already are refused.
 use crate::draws::draw;
+use crate::places::DRAWN;
 use case_draws::draws::{all_but_one_in, one_in, pick, slot};
 use contact_graph::add::add;
 use contact_graph::call::Request;
@@ -9,12 +10,15 @@ use math::bits::float_of;
 // 0, 0.1, 1, 2.
 const DISTANCES: [u32; 4] = [0x0000_0000, 0x3dcc_cccd, 0x3f80_0000, 0x4000_0000];
 
-// Two of the six colliders.
+// How far the second collider may be past the first.
+const OTHERS: u32 = DRAWN - 1;
+
+// Two of the colliders that are drawn.
 fn request(key: u32) -> Request {
-    let first = draw(key, 1) % 6;
+    let first = draw(key, 1) % DRAWN;
     Request {
         collider1: first,
-        collider2: (first + 1 + draw(key, 2) % 5) % 6,
+        collider2: (first + 1 + draw(key, 2) % OTHERS) % DRAWN,
         has_body1: all_but_one_in(draw(key, 3), 5),
         body1: draw(key, 4) % BODIES,
         has_body2: all_but_one_in(draw(key, 5), 5),

@@ -1,5 +1,6 @@
 // The nine runs of a step, compared word by word with the first.
 use crate::left::Left;
+use crate::orders::SHARES;
 use crate::places::GRAPH_LENGTH;
 use crate::world::World;
 use std::fmt;
@@ -33,15 +34,14 @@ pub fn run_all(
     key: u32,
 ) -> (Left, Option<Difference>) {
     let first = world.run(graph, 0, key);
-    let mut difference = None;
-    for share in 1..9 {
-        let found = first.differs(&world.run(graph, share, key));
-        difference = difference.or(found.map(|(row, place)| Difference {
+    let difference = (1..SHARES).find_map(|share| {
+        let (row, place) = first.differs(&world.run(graph, share, key))?;
+        Some(Difference {
             step,
             share,
             row,
             place,
-        }));
-    }
+        })
+    });
     (first, difference)
 }

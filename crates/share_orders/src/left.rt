@@ -1,17 +1,22 @@
 // What a step leaves.
 use crate::places::{CAPACITY_LENGTH, CHANGES_LENGTH, EVENTS_LENGTH, GRAPH_LENGTH};
+use contact_types::refusal::Refusal;
+use step::answer::StepReport;
 
 // What the rows for events, changes and distances hold before a step.
-const UNWRITTEN: u32 = 0xffff_ffff;
+const UNWRITTEN: u32 = u32::MAX;
 
-// The answer is the refusal's number or 0, and the numbers of events, changes and contacts recycled.
 #[derive(Clone, Copy)]
 pub struct Left {
     pub graph: [u32; GRAPH_LENGTH],
     pub events: [u32; EVENTS_LENGTH],
     pub changes: [u32; CHANGES_LENGTH],
     pub distances: [u32; CAPACITY_LENGTH],
-    pub answer: [u32; 4],
+    pub answer: Result<StepReport, Refusal>,
+}
+
+fn first_difference(a: &[u32], b: &[u32]) -> Option<usize> {
+    a.iter().zip(b).position(|(x, y)| x != y)
 }
 
 impl Left {
@@ -21,7 +26,19 @@ impl Left {
             events: [UNWRITTEN; EVENTS_LENGTH],
             changes: [UNWRITTEN; CHANGES_LENGTH],
             distances: [UNWRITTEN; CAPACITY_LENGTH],
-            answer: [0; 4],
+            answer: Ok(StepReport {
+                events: 0,
+                changes: 0,
+                recycled: 0,
+            }),
+        }
+    }
+
+    // The refusal's number or 0, and the numbers of events, changes and contacts recycled.
+    fn answer_words(&self) -> [u32; 4] {
+        match self.answer {
+            Ok(report) => [0, report.events, report.changes, report.recycled],
+            Err(refusal) => [refusal.number(), 0, 0, 0],
         }
     }
 
@@ -32,13 +49,13 @@ impl Left {
             ("events", &self.events[..], &other.events[..]),
             ("changes", &self.changes[..], &other.changes[..]),
             ("distances", &self.distances[..], &other.distances[..]),
-            ("answer", &self.answer[..], &other.answer[..]),
         ];
         for (name, a, b) in rows {
-            if let Some(place) = a.iter().zip(b).position(|(x, y)| x != y) {
+            if let Some(place) = first_difference(a, b) {
                 return Some((name, place));
             }
         }
-        None
+        let place = first_difference(&self.answer_words(), &other.answer_words())?;
+        Some(("answer", place))
     }
 }

@@ -15,7 +15,7 @@ use std::io::Write;
 const LISTS: u32 = 40;
 
 // Of steps: those accepted, contacts updated, events, changes, contacts recycled.
-#[derive(Clone, Copy)]
+#[derive(Clone, Copy, Default)]
 struct Counts {
     accepted: u32,
     updated: u32,
@@ -25,14 +25,6 @@ struct Counts {
 }
 
 impl Counts {
-    const NONE: Self = Counts {
-        accepted: 0,
-        updated: 0,
-        events: 0,
-        changes: 0,
-        recycled: 0,
-    };
-
     fn add(&mut self, more: Counts) {
         self.accepted = self.accepted.wrapping_add(more.accepted);
         self.updated = self.updated.wrapping_add(more.updated);
@@ -43,14 +35,13 @@ impl Counts {
 
     // A step that began with so many contacts.
     fn add_step(&mut self, left: &Left, listed: u32) {
-        let [refusal, events, changes, recycled] = left.answer;
-        if refusal == 0 {
+        if let Ok(report) = left.answer {
             self.add(Counts {
                 accepted: 1,
                 updated: listed,
-                events,
-                changes,
-                recycled,
+                events: report.events,
+                changes: report.changes,
+                recycled: report.recycled,
             });
         }
     }
@@ -60,7 +51,7 @@ impl Counts {
 fn play_list(key: u32) -> (Counts, Option<Difference>) {
     let mut world = World::new(key);
     let mut graph = [0; GRAPH_LENGTH];
-    let mut counts = Counts::NONE;
+    let mut counts = Counts::default();
     let mut difference = None;
     let _ = lay_out(&mut graph, CAPACITY);
     for step in 0..12 {
@@ -91,7 +82,7 @@ fn print_list<W: Write>(
 }
 
 pub fn print_lists<W: Write>(out: &mut W) -> io::Result<()> {
-    let mut totals = Counts::NONE;
+    let mut totals = Counts::default();
     let mut same: u32 = 0;
     for list in 0..LISTS {
         let (counts, difference) = play_list(draw(list, 0));

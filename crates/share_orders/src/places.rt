@@ -9,6 +9,9 @@ use layout::shares::SHARES_ENTRIES;
 
 pub const CAPACITY: u32 = 8;
 
+// The colliders that are drawn, each with a body of its number.
+pub const DRAWN: u32 = 6;
+
 pub const RECORDS_PLACE: u32 = GRAPH_LIST + GRAPH_IDS * CAPACITY;
 
 pub const CAPACITY_LENGTH: usize = CAPACITY as usize;

@@ -1,7 +1,7 @@
 // The proposals of the listed contacts. At times one is overfull, so that the step is refused.
 use crate::draws::{draw, float};
 use case_draws::draws::{all_but_one_in, past, pick, slot};
-use case_draws::graph::{listed, listed_id};
+use case_draws::graph::listed_ids;
 use case_draws::numbers::{
     MANIFOLDS, PROPOSAL_COUNT, PROPOSAL_HOOK, PROPOSAL_MANIFOLDS, PROPOSAL_SIZE,
     PROPOSED_MANIFOLD_COUNT, PROPOSED_MANIFOLD_NORMAL, PROPOSED_MANIFOLD_POINTS,
@@ -94,8 +94,7 @@ fn proposal_word(key: u32, i: u32) -> u32 {
 
 // One in two keeps what was proposed to it before.
 pub fn fill_proposals(proposals: &mut [u32], graph: &[u32], key: u32) {
-    for p in 0..listed(graph) {
-        let id = listed_id(graph, p);
+    for &id in listed_ids(graph) {
         let own = draw(key, slot(300, id));
         if own % 2 == 0 {
             fill_nth(proposals, id, PROPOSAL_SIZE, |i| proposal_word(own, i));

@@ -1,10 +1,10 @@
-// What a step is given: settings, and six colliders with a body each, drawn at a list's start, and kept, moved or drawn anew before a
+// What a step is given: settings, and colliders with a body each, drawn at a list's start, and kept, moved or drawn anew before a
 // step, and proposals.
 
 use crate::draws::{draw, float};
 use crate::left::Left;
 use crate::orders::{rubbish, shares_of};
-use crate::places::{GRAPH_LENGTH, PROPOSALS_LENGTH};
+use crate::places::{DRAWN, GRAPH_LENGTH, PROPOSALS_LENGTH};
 use crate::proposed::fill_proposals;
 use case_draws::draws::{all_but_one_in, one_in, past, pick, slot};
 use case_draws::numbers::{
@@ -15,7 +15,7 @@ use case_draws::numbers::{
     COLLIDER_UPPER, SETTINGS_FRICTION, SETTINGS_MATCH_CONTACTS, SETTINGS_MATCHING,
     SETTINGS_MATCHING_VALUE, SETTINGS_RECYCLE_COSINE, SETTINGS_RESTITUTION, SETTINGS_STEP_TIME,
 };
-use case_draws::places::{fill, fill_nth, put, word};
+use case_draws::places::{fill, fill_nth, nth_place, put, word};
 use layout::body::BODIES_LENGTH;
 use layout::collider::COLLIDERS_LENGTH;
 use layout::limits::BODIES;
@@ -189,7 +189,7 @@ fn move_body(bodies: &mut [u32], key: u32, n: u32) {
     for i in BODY_POSITION..BODY_ROTATION {
         let d = draw(draw(key, slot(20, n)), i);
         if d % 2 == 0 {
-            let at = BODY_SIZE.wrapping_mul(n).wrapping_add(i);
+            let at = nth_place(n, BODY_SIZE, i);
             let by = float_of(pick(&MOVES, d / 2));
             put(bodies, at, bits_of(float_of(word(bodies, at)) + by));
         }
@@ -215,7 +215,7 @@ impl World {
         fill(&mut world.settings, 0, SETTINGS_LENGTH as u32, |i| {
             setting_word(key, i)
         });
-        for n in 0..6 {
+        for n in 0..DRAWN {
             world.fill(key, n);
         }
         world
@@ -236,11 +236,11 @@ impl World {
         let d = draw(key, 1);
         match d % 4 {
             0 => {
-                for n in 0..6 {
+                for n in 0..DRAWN {
                     move_body(&mut self.bodies, key, n);
                 }
             }
-            1 => self.fill(key, d / 4 % 6),
+            1 => self.fill(key, d / 4 % DRAWN),
             _ => {}
         }
         fill_proposals(&mut self.proposals, graph, key);
@@ -258,7 +258,7 @@ impl World {
             proposals: &self.proposals,
             shares: &shares,
         };
-        let answer = step(
+        left.answer = step(
             &input,
             &mut left.graph,
             &mut bits,
@@ -266,11 +266,6 @@ impl World {
             &mut left.changes,
             &mut left.distances,
         );
-        let words = match answer {
-            Ok(report) => [0, report.events, report.changes, report.recycled],
-            Err(refusal) => [refusal.number(), 0, 0, 0],
-        };
-        left.answer = words;
         left
     }
 }

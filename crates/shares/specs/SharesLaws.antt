@@ -16,6 +16,7 @@ use Rattle.contact_range.specs.RangeLaws.{first_of_lem, rest_of, stands_found, l
 use Rattle.contact_range.specs.Recorded.{capacity_of, listed_count, listed_at}
 use Rattle.shares.specs.CountingLaws.{sum_ones, all_ones, counted_twice}
 use Rattle.shares.specs.Shares.{workers_of, start_of, total_of, entry_at, times, counts_fit, entries_stand, active_once, entries_once, shares_fit}
+use Rattle.rules.specs.Limits.{most_workers}
 
 -- ---- how often a number stands in a row
 module _ (f : ℕ → ℕ) (x : ℕ) where
@@ -150,29 +151,29 @@ module _ (xs g : List ℕ) where
   unfolding counts_fit
   no_worker e z = counts_unfit (let f = le-ltb 0 (workers_of xs) (omega arith) in rw f)
 
-  pub many_workers : {w : ℕ} → w ≡ workers_of xs → 8 < w → false ≡ shares_fit xs g
+  pub many_workers : {w : ℕ} → w ≡ workers_of xs → most_workers < w → false ≡ shares_fit xs g
   unfolding counts_fit
-  many_workers e l = counts_unfit (let f = lt-leb (workers_of xs) 8 (omega arith) in rw (f, and-false (ltb 0 (workers_of xs))))
+  many_workers e l = counts_unfit (let f = lt-leb (workers_of xs) most_workers (omega arith) in rw (f, and-false (ltb 0 (workers_of xs))))
 
   pub many_entries : {w t n : ℕ} → w ≡ workers_of xs → t ≡ start_of xs w → n ≡ capacity_of g → n < t → false ≡ shares_fit xs g
   unfolding counts_fit
   many_entries {w} {t} e s c l =
       let same : t ≡ total_of xs = s ∙ ap (start_of xs) e in
       let f = lt-leb (total_of xs) (capacity_of g) (omega arith) in
-      counts_unfit (rw (f, and-false (ltb 0 (workers_of xs) && leb (workers_of xs) 8)))
+      counts_unfit (rw (f, and-false (ltb 0 (workers_of xs) && leb (workers_of xs) most_workers)))
 
   pub entries_unfit : Checked g → {r : Bool} → r ≡ entries_stand xs g && entries_once xs → not r ≡ true → false ≡ shares_fit xs g
   entries_unfit c {r} e n =
       let f : entries_stand xs g && entries_once xs ≡ false = sym e ∙ not-true r n in
       sym (in_turn c ∙ ap (λ (b : Bool). counts_fit xs g && (b && eqb (total_of xs) (listed_count g))) f ∙ and-false (counts_fit xs g))
 
-  pub number_unfit : Checked g → {w t n m : ℕ} {r : Bool} → w ≡ workers_of xs → (w ≡ 0 → ⊥) → w ≤ 8 → t ≡ start_of xs w → n ≡ capacity_of g → t ≤ n
+  pub number_unfit : Checked g → {w t n m : ℕ} {r : Bool} → w ≡ workers_of xs → (w ≡ 0 → ⊥) → w ≤ most_workers → t ≡ start_of xs w → n ≡ capacity_of g → t ≤ n
       → r ≡ entries_stand xs g && entries_once xs → not r ≡ false → m ≡ listed_count g → eqb t m ≡ shares_fit xs g
   unfolding counts_fit
   number_unfit c {w} {t} {n} {m} {r} e z l s k h f p q =
       let same : t ≡ total_of xs = s ∙ ap (start_of xs) e in
       let a = lt-ltb 0 (workers_of xs) (omega (arith, z)) in
-      let b = le-leb (workers_of xs) 8 (omega arith) in
+      let b = le-leb (workers_of xs) most_workers (omega arith) in
       let d = le-leb (total_of xs) (capacity_of g) (omega arith) in
       let counts : counts_fit xs g ≡ true = rw (a, b, d) in
       let held : entries_stand xs g && entries_once xs ≡ true = sym f ∙ not-false r p in

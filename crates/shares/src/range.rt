@@ -3,14 +3,13 @@ ghost use Rattle.std.specs.Prelude.{◌≡◌, ◌&&◌, ◌+◌, ◌≤◌, len
 ghost use Rattle.contact_range.specs.Checked.{Checked};
 ghost use Rattle.contact_range.specs.Recorded.{capacity_of};
 ghost use Rattle.contact_range.specs.Conditions.{Unmarked};
-ghost use Rattle.layout.specs.Bits.{most_blocks};
 ghost use Rattle.layout.specs.Shares.{shares_entries, shares_length};
 ghost use Rattle.rules.specs.Limits.{most_workers};
 ghost use Rattle.shares.specs.Shares.{start_of, total_of, entries_stand, entries_once, shares_fit};
 
 use contact_graph::call::has_contact;
 use contact_range::places::id_at;
-use data_structures::bit_vec::{get, set};
+use data_structures::bit_vec::insert;
 use layout::bits::MOST_BLOCKS;
 use layout::graph::{GRAPH_CAPACITY, GRAPH_LISTED};
 use layout::limits::MOST_WORKERS;
@@ -24,14 +23,14 @@ pub fn start_of(shares: &[u32], worker: usize) -> usize
 {
     let mut total = 0;
     for w in 0..worker {
-        total += load::<u32>(shares, SHARES_COUNTS + w) as usize;
+        total += load::<usize>(shares, SHARES_COUNTS + w);
     }
     total
 }
 
 // Every entry is active, and none stands twice: each is marked, and none is marked already.
-fn entries_fit(shares: &[u32], graph: &[u32], total: usize, marks: &mut [u64]) -> bool
-    requires { Checked graph.now × (total ≡ total_of shares.now) × (shares_entries + total ≤ length shares.now) × (length marks.old ≡ most_blocks) × Unmarked marks.old }
+fn entries_fit(shares: &[u32], graph: &[u32], total: usize, marks: &mut [u64; MOST_BLOCKS]) -> bool
+    requires { Checked graph.now × (total ≡ total_of shares.now) × (shares_entries + total ≤ length shares.now) × Unmarked marks.old }
     ensures { result ≡ (entries_stand shares.now graph.now && entries_once shares.now) }
 {
     for k in 0..total {
@@ -39,10 +38,9 @@ fn entries_fit(shares: &[u32], graph: &[u32], total: usize, marks: &mut [u64]) -
         if !has_contact(graph, id) {
             return false;
         }
-        if get(marks, id.0 as usize) {
+        if !insert(marks, id.0 as usize) {
             return false;
         }
-        set(marks, id.0 as usize);
     }
     true
 }
@@ -52,19 +50,12 @@ pub fn shares_fit(shares: &[u32], graph: &[u32]) -> bool
     ensures { result ≡ shares_fit shares.now graph.now }
 {
     let workers = load::<usize>(shares, SHARES_WORKERS);
-    if workers == 0 {
-        return false;
-    }
-    if MOST_WORKERS < workers {
+    if workers == 0 || MOST_WORKERS < workers {
         return false;
     }
     let total = start_of(shares, workers);
-    if load::<usize>(graph, GRAPH_CAPACITY) < total {
-        return false;
-    }
     let mut marks = [0u64; MOST_BLOCKS];
-    if !entries_fit(shares, graph, total, &mut marks) {
-        return false;
-    }
-    total == load::<usize>(graph, GRAPH_LISTED)
+    total <= load::<usize>(graph, GRAPH_CAPACITY)
+        && entries_fit(shares, graph, total, &mut marks)
+        && total == load::<usize>(graph, GRAPH_LISTED)
 }

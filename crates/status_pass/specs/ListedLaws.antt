@@ -21,6 +21,9 @@ use Rattle.status_pass.specs.declared.events.EventKind.{EventKind}
 use Rattle.status_pass.specs.declared.events.EventKind.TheVariants as event
 use Rattle.status_pass.specs.declared.changes.ContactStatusChange.{ContactStatusChange}
 use Rattle.status_pass.specs.declared.changes.ContactStatusChange.TheVariants as change
+use Rattle.layout.specs.Contact.{contact_body1, contact_body1_number, contact_body2, contact_body2_number, contact_count_change, pair_generate_constraints}
+use Rattle.layout.specs.Change.{change_size}
+use Rattle.layout.specs.Event.{event_size}
 
 -- ---- events
 ended_where : (b : Bool) (n : Names) → events_by (then_some b event.Ended) n ≡ event_if b (ended n)
@@ -57,12 +60,12 @@ optional_words_where true n = refl
 optional_words_where false n = refl
 
 module _ (w : List ℕ) (kind id : ℕ) where
-  pub named_words_lem : {a b c d e f : ℕ} → a ≡ word_at w 0 → b ≡ word_at w 1 → c ≡ mark_word (mark_at w 2) → d ≡ cond (mark_at w 2) (word_at w 3) 0
-      → e ≡ mark_word (mark_at w 4) → f ≡ cond (mark_at w 4) (word_at w 5) 0 → kind ∷ id ∷ a ∷ b ∷ c ∷ d ∷ e ∷ f ∷ [] ≡ named_words kind (names_at w 0 id)
+  pub named_words_lem : {a b c d e f : ℕ} → a ≡ word_at w 0 → b ≡ word_at w 1 → c ≡ mark_word (mark_at w contact_body1) → d ≡ cond (mark_at w contact_body1) (word_at w contact_body1_number) 0
+      → e ≡ mark_word (mark_at w contact_body2) → f ≡ cond (mark_at w contact_body2) (word_at w contact_body2_number) 0 → kind ∷ id ∷ a ∷ b ∷ c ∷ d ∷ e ∷ f ∷ [] ≡ named_words kind (names_at w 0 id)
   unfolding names_at
   named_words_lem p q r s t u =
       (λ i. kind ∷ id ∷ p i ∷ q i ∷ r i ∷ s i ∷ t i ∷ u i ∷ [])
-      ∙ sym (λ i. kind ∷ id ∷ word_at w 0 ∷ word_at w 1 ∷ optional_words_where (mark_at w 2) (word_at w 3) i ++ optional_words_where (mark_at w 4) (word_at w 5) i)
+      ∙ sym (λ i. kind ∷ id ∷ word_at w 0 ∷ word_at w 1 ∷ optional_words_where (mark_at w contact_body1) (word_at w contact_body1_number) i ++ optional_words_where (mark_at w contact_body2) (word_at w contact_body2_number) i)
 
 -- the words of an event, whatever its kind
 module _ (w : List ℕ) (id : ℕ) where
@@ -85,20 +88,20 @@ module _ (w : List ℕ) (id : ℕ) {v : Verdict} {r : Option EventKind} (is : Ev
   unfolding put
   event_none e = record { stored = rw (← is.under id, e); count = rw (← is.under id, e) (sym (add-zero n)) }
 
-  pub event_one : {k : EventKind} {row' : List ℕ} {m : ℕ} → r ≡ Some k → row' ≡ put row (n * 8) (event_words (event_by k (names_at w 0 id))) → m ≡ n + 1
+  pub event_one : {k : EventKind} {row' : List ℕ} {m : ℕ} → r ≡ Some k → row' ≡ put row (n * event_size) (event_words (event_by k (names_at w 0 id))) → m ≡ n + 1
       → EventsWritten row n (events_for (plain_verdict v) (pair_at w 0 id)) row' m
   event_one {k} e q s =
-      record { stored = q ∙ rw (← is.under id, e) (ap (put row (n * 8)) (sym (append-nil (event_words (event_by k (names_at w 0 id)))))); count = s ∙ rw (← is.under id, e) }
+      record { stored = q ∙ rw (← is.under id, e) (ap (put row (n * event_size)) (sym (append-nil (event_words (event_by k (names_at w 0 id)))))); count = s ∙ rw (← is.under id, e) }
 
-  pub event_started : {ws row' : List ℕ} → r ≡ Some event.Started → ws ≡ named_words 0 (names_at w 0 id) → row' ≡ put row (n * 8) ws
+  pub event_started : {ws row' : List ℕ} → r ≡ Some event.Started → ws ≡ named_words 0 (names_at w 0 id) → row' ≡ put row (n * event_size) ws
       → EventsWritten row n (events_for (plain_verdict v) (pair_at w 0 id)) row' (n + 1)
   unfolding event_words
-  event_started e p q = event_one e (q ∙ ap (put row (n * 8)) p) refl
+  event_started e p q = event_one e (q ∙ ap (put row (n * event_size)) p) refl
 
-  pub event_ended : {ws row' : List ℕ} → r ≡ Some event.Ended → ws ≡ named_words 1 (names_at w 0 id) → row' ≡ put row (n * 8) ws
+  pub event_ended : {ws row' : List ℕ} → r ≡ Some event.Ended → ws ≡ named_words 1 (names_at w 0 id) → row' ≡ put row (n * event_size) ws
       → EventsWritten row n (events_for (plain_verdict v) (pair_at w 0 id)) row' (n + 1)
   unfolding event_words
-  event_ended e p q = event_one e (q ∙ ap (put row (n * 8)) p) refl
+  event_ended e p q = event_one e (q ∙ ap (put row (n * event_size)) p) refl
 
 -- ---- changes
 module _ (w : List ℕ) (id c d : ℕ) where
@@ -111,7 +114,7 @@ module _ (w : List ℕ) (id c d : ℕ) where
   stop_where true true false = refl
   stop_where true true true = refl
 
-  count_where : (a b : Bool) (z : ℤ) → z ≡ int_of (word_at w 18) → changes_by (then_some (a && b) change.ManifoldCountChanged) w id ≡ count_of (names a b) z
+  count_where : (a b : Bool) (z : ℤ) → z ≡ int_of (word_at w contact_count_change) → changes_by (then_some (a && b) change.ManifoldCountChanged) w id ≡ count_of (names a b) z
   count_where false b z e = refl
   count_where true false z e = refl
   count_where true true z e = ap (λ (z : ℤ). count id (body1_at w) (body2_at w) z ∷ []) (sym e)
@@ -121,30 +124,30 @@ start_where w id true = refl
 start_where w id false = refl
 
 module _ (w : List ℕ) {v : Verdict} {r : Option ContactStatusChange} where
-  pub change_vanishes : {g a b : Bool} → g ≡ mark_at w 13 → a ≡ mark_at w 2 → b ≡ mark_at w 4 → v ≡ Vanishes
+  pub change_vanishes : {g a b : Bool} → g ≡ mark_at w pair_generate_constraints → a ≡ mark_at w contact_body1 → b ≡ mark_at w contact_body2 → v ≡ Vanishes
       → r ≡ then_some (g && (a && b)) change.StoppedGeneratingConstraints → ChangeIs w v r
   unfolding pair_at names_at flags_at
-  change_vanishes p q s e f = record { under = λ id. rw (e, f, p, q, s) (stop_where w id (word_at w 0) (word_at w 1) (mark_at w 13) (mark_at w 2) (mark_at w 4)) }
+  change_vanishes p q s e f = record { under = λ id. rw (e, f, p, q, s) (stop_where w id (word_at w 0) (word_at w 1) (mark_at w pair_generate_constraints) (mark_at w contact_body1) (mark_at w contact_body2)) }
 
-  pub change_stops : {g a b : Bool} → g ≡ mark_at w 13 → a ≡ mark_at w 2 → b ≡ mark_at w 4 → v ≡ Stops
+  pub change_stops : {g a b : Bool} → g ≡ mark_at w pair_generate_constraints → a ≡ mark_at w contact_body1 → b ≡ mark_at w contact_body2 → v ≡ Stops
       → r ≡ then_some (g && (a && b)) change.StoppedGeneratingConstraints → ChangeIs w v r
   unfolding pair_at names_at flags_at
-  change_stops p q s e f = record { under = λ id. rw (e, f, p, q, s) (stop_where w id (word_at w 0) (word_at w 1) (mark_at w 13) (mark_at w 2) (mark_at w 4)) }
+  change_stops p q s e f = record { under = λ id. rw (e, f, p, q, s) (stop_where w id (word_at w 0) (word_at w 1) (mark_at w pair_generate_constraints) (mark_at w contact_body1) (mark_at w contact_body2)) }
 
-  pub change_starts : {g : Bool} → g ≡ mark_at w 13 → v ≡ Starts → r ≡ then_some g change.StartedGeneratingConstraints → ChangeIs w v r
+  pub change_starts : {g : Bool} → g ≡ mark_at w pair_generate_constraints → v ≡ Starts → r ≡ then_some g change.StartedGeneratingConstraints → ChangeIs w v r
   unfolding pair_at names_at flags_at
-  change_starts p e f = record { under = λ id. rw (e, f, p) (start_where w id (mark_at w 13)) }
+  change_starts p e f = record { under = λ id. rw (e, f, p) (start_where w id (mark_at w pair_generate_constraints)) }
 
   pub change_generates : v ≡ Generates → r ≡ Some change.StartedGeneratingConstraints → ChangeIs w v r
   unfolding pair_at names_at
   change_generates e f = record { under = λ id. rw (e, f) }
 
-  pub change_recounts : {a b : Bool} → a ≡ mark_at w 2 → b ≡ mark_at w 4 → v ≡ Recounts → r ≡ then_some (a && b) change.ManifoldCountChanged → ChangeIs w v r
+  pub change_recounts : {a b : Bool} → a ≡ mark_at w contact_body1 → b ≡ mark_at w contact_body2 → v ≡ Recounts → r ≡ then_some (a && b) change.ManifoldCountChanged → ChangeIs w v r
   unfolding pair_at names_at
-  change_recounts q s e f = record { under = λ id. rw (e, f, q, s) (count_where w id (word_at w 0) (word_at w 1) (mark_at w 2) (mark_at w 4) (int_of (word_at w 18)) refl) }
+  change_recounts q s e f = record { under = λ id. rw (e, f, q, s) (count_where w id (word_at w 0) (word_at w 1) (mark_at w contact_body1) (mark_at w contact_body2) (int_of (word_at w contact_count_change)) refl) }
 
 -- a count change's last word, in two's complement
-pub count_stored : (w : List ℕ) {z : ℕ} → z ≡ word_at w 18 → z < 2 ^ 32 → z ≡ int_word (int_of (word_at w 18))
+pub count_stored : (w : List ℕ) {z : ℕ} → z ≡ word_at w contact_count_change → z < 2 ^ 32 → z ≡ int_word (int_of (word_at w contact_count_change))
 count_stored w {z} t l = sym (word_back z l) ∙ ap (λ (x : ℕ). int_word (int_of x)) t
 
 -- what is stored after n changes
@@ -153,22 +156,22 @@ module _ (w : List ℕ) (id : ℕ) {v : Verdict} {r : Option ContactStatusChange
   unfolding put
   change_none e = record { stored = rw (← is.under id, e); count = rw (← is.under id, e) (sym (add-zero n)) }
 
-  pub change_one : {k : ContactStatusChange} {row' : List ℕ} {m : ℕ} → r ≡ Some k → row' ≡ put row (n * 5) (change_words (change_by k w id)) → m ≡ n + 1
+  pub change_one : {k : ContactStatusChange} {row' : List ℕ} {m : ℕ} → r ≡ Some k → row' ≡ put row (n * change_size) (change_words (change_by k w id)) → m ≡ n + 1
       → ChangesWritten row n (changes_for (plain_verdict v) (pair_at w 0 id)) row' m
   change_one {k} e q s =
-      record { stored = q ∙ rw (← is.under id, e) (ap (put row (n * 5)) (sym (append-nil (change_words (change_by k w id))))); count = s ∙ rw (← is.under id, e) }
+      record { stored = q ∙ rw (← is.under id, e) (ap (put row (n * change_size)) (sym (append-nil (change_words (change_by k w id))))); count = s ∙ rw (← is.under id, e) }
 
-  pub change_start : {row' : List ℕ} → r ≡ Some change.StartedGeneratingConstraints → row' ≡ put row (n * 5) (0 ∷ id ∷ 0 ∷ 0 ∷ 0 ∷ [])
+  pub change_start : {row' : List ℕ} → r ≡ Some change.StartedGeneratingConstraints → row' ≡ put row (n * change_size) (0 ∷ id ∷ 0 ∷ 0 ∷ 0 ∷ [])
       → ChangesWritten row n (changes_for (plain_verdict v) (pair_at w 0 id)) row' (n + 1)
   unfolding change_words
   change_start e q = change_one e q refl
 
-  pub change_stop : {a b : ℕ} {row' : List ℕ} → r ≡ Some change.StoppedGeneratingConstraints → a ≡ word_at w 3 → b ≡ word_at w 5 → row' ≡ put row (n * 5) (1 ∷ id ∷ a ∷ b ∷ 0 ∷ [])
+  pub change_stop : {a b : ℕ} {row' : List ℕ} → r ≡ Some change.StoppedGeneratingConstraints → a ≡ word_at w contact_body1_number → b ≡ word_at w contact_body2_number → row' ≡ put row (n * change_size) (1 ∷ id ∷ a ∷ b ∷ 0 ∷ [])
       → ChangesWritten row n (changes_for (plain_verdict v) (pair_at w 0 id)) row' (n + 1)
   unfolding change_words
-  change_stop e p t q = change_one e (q ∙ (λ i. put row (n * 5) (1 ∷ id ∷ p i ∷ t i ∷ 0 ∷ []))) refl
+  change_stop e p t q = change_one e (q ∙ (λ i. put row (n * change_size) (1 ∷ id ∷ p i ∷ t i ∷ 0 ∷ []))) refl
 
-  pub change_count_lem : {a b z : ℕ} {row' : List ℕ} → r ≡ Some change.ManifoldCountChanged → a ≡ word_at w 3 → b ≡ word_at w 5 → z ≡ word_at w 18 → z < 2 ^ 32
-      → row' ≡ put row (n * 5) (2 ∷ id ∷ a ∷ b ∷ z ∷ []) → ChangesWritten row n (changes_for (plain_verdict v) (pair_at w 0 id)) row' (n + 1)
+  pub change_count_lem : {a b z : ℕ} {row' : List ℕ} → r ≡ Some change.ManifoldCountChanged → a ≡ word_at w contact_body1_number → b ≡ word_at w contact_body2_number → z ≡ word_at w contact_count_change → z < 2 ^ 32
+      → row' ≡ put row (n * change_size) (2 ∷ id ∷ a ∷ b ∷ z ∷ []) → ChangesWritten row n (changes_for (plain_verdict v) (pair_at w 0 id)) row' (n + 1)
   unfolding change_words
-  change_count_lem e p t z l q = change_one e (q ∙ (λ i. put row (n * 5) (2 ∷ id ∷ p i ∷ t i ∷ count_stored w z l i ∷ []))) refl
+  change_count_lem e p t z l q = change_one e (q ∙ (λ i. put row (n * change_size) (2 ∷ id ∷ p i ∷ t i ∷ count_stored w z l i ∷ []))) refl

@@ -19,8 +19,8 @@ use Rattle.manifold_records.specs.Counts.{Counted}
 use Rattle.manifold_records.specs.ListLaws.{map_upto_same, get_d_map_upto, length_map_upto}
 use Rattle.contact_records.specs.ApartLaws.{pair_same}
 use Rattle.contact_records.specs.HeldLaws.{Same}
-use Rattle.layout.specs.Contact.{contact_edge_flags, contact_manifolds, contact_size}
-use Rattle.layout.specs.Graph.{contact_place}
+use Rattle.layout.specs.Contact.{contact_edge_flags, contact_manifolds, contact_pair_index, contact_size}
+use Rattle.layout.specs.Graph.{contact_place, graph_list}
 use Rattle.contact_records.specs.Recorded.{pair_at}
 use Rattle.contact_range.specs.Recorded.{capacity_of, given_of, listed_count, free_count, listed_at, free_at, contact_at, graph_of}
 use Rattle.contact_range.specs.Range as range
@@ -68,7 +68,7 @@ module _ (v : Verdict) {g : List ℕ} (id : ℕ) (c : Checked g) (st : range.sta
       get_d_put_apart g (contact_at g id) (settled_words v (record_of g id)) j 0
       (subst (λ (m : ℕ). (j < contact_at g id) ⊎ (contact_at g id + m ≤ j)) (sym settled_size) a)
 
-  head_kept : (j : ℕ) → j < 4 + 2 * capacity_of g → word_at h j ≡ word_at g j
+  head_kept : (j : ℕ) → j < graph_list + 2 * capacity_of g → word_at h j ≡ word_at g j
   head_kept j l = word_kept j (inl (omega (arith, contact_after c.right id)))
 
   capacity_kept : capacity_of h ≡ capacity_of g
@@ -84,15 +84,15 @@ module _ (v : Verdict) {g : List ℕ} (id : ℕ) (c : Checked g) (st : range.sta
   freed_kept = let z = c.right.least in head_kept 3 (omega arith)
 
   listed_at_lem : (p : ℕ) → p < listed_count g → listed_at h p ≡ listed_at g p
-  listed_at_lem p l = let n = counts c.range in head_kept (4 + p) (omega arith)
+  listed_at_lem p l = let n = counts c.range in head_kept (graph_list + p) (omega arith)
 
   free_at_lem : (k : ℕ) → k < free_count g → free_at h k ≡ free_at g k
-  free_at_lem k l = let n = counts c.range in ap (λ (m : ℕ). word_at h (4 + m + k)) capacity_kept ∙ head_kept (4 + capacity_of g + k) (omega arith)
+  free_at_lem k l = let n = counts c.range in ap (λ (m : ℕ). word_at h (graph_list + m + k)) capacity_kept ∙ head_kept (graph_list + capacity_of g + k) (omega arith)
 
   -- the records of the others, and the contact's own
   other_word : (i o : ℕ) → i ≢ id → o < contact_size → word_at h (contact_at h i + o) ≡ word_at g (contact_at g i + o)
   other_word i o n l =
-      ap (λ (m : ℕ). word_at h (contact_place m i + o)) capacity_kept ∙ word_kept (contact_at g i + o) (word_apart (4 + 2 * capacity_of g) i id o n l)
+      ap (λ (m : ℕ). word_at h (contact_place m i + o)) capacity_kept ∙ word_kept (contact_at g i + o) (word_apart (graph_list + 2 * capacity_of g) i id o n l)
 
   own_part : part h (contact_at g id) contact_size ≡ settled_words v (record_of g id)
   unfolding settled_graph
@@ -164,7 +164,7 @@ module _ (v : Verdict) {g : List ℕ} (id : ℕ) (c : Checked g) (st : range.sta
       record {
         counts = record { given = omega (arith, given_kept, capacity_kept); listed = omega (arith, listed_kept, capacity_kept); freed = omega (arith, freed_kept, capacity_kept) };
         given = λ p l. let b = known p l in omega (arith, listed_at_lem p b, listed_given_lem r p b, given_kept);
-        back = λ p l. let b = known p l in listed_word p 6 b (omega arith) ∙ listed_index r p b;
+        back = λ p l. let b = known p l in listed_word p contact_pair_index b (omega arith) ∙ listed_index r p b;
         contacts = λ p l. let b = known p l in subst (λ (i : ℕ). Fitting h (contact_at h i)) (sym (listed_at_lem p b)) (fitting_kept (listed_at g p) (listed_fits_lem r p b));
         freed = λ k l. let b = under k l in omega (arith, free_at_lem k b, free_given_lem r k b, given_kept);
         once = λ j k a l e. let b = under k l in let d : j < free_count g = omega arith in let z = free_once_lem r j k d b (sym (free_at_lem j d) ∙ e ∙ free_at_lem k b) in omega arith;

@@ -15,12 +15,14 @@ use Rattle.manifold_records.specs.ListLaws.{map_upto_same}
 use Rattle.manifold_records.specs.Recorded.{points_at, manifold_at, manifolds_at}
 use Rattle.contact_records.specs.ApartLaws.{vec3_same, point_same, names_same, cache_same}
 use Rattle.contact_records.specs.HeldLaws.{Same, same_in, first_same}
-use Rattle.layout.specs.Contact.{contact_count_change, contact_edge_flags, contact_size}
+use Rattle.layout.specs.Contact.{cache_size, contact_cache, contact_count_change, contact_edge_flags, contact_flags, contact_manifolds, contact_size, edge_touching}
 use Rattle.contact_records.specs.Recorded.{int_of, flags_at, edge_at, pair_at}
 use Rattle.contact_range.specs.Range.{optional_fits}
 use Rattle.contact_range.specs.RangeLaws.{Fitting}
 use Rattle.contact_graph.specs.EffectLaws.{differ, same_or_not}
 use Rattle.status_pass.specs.Settled.{started_place, stopped_place, generating_place, started_words, stopped_words, settled_words}
+use Rattle.layout.specs.Manifold.{manifold_size}
+use Rattle.layout.specs.Point.{point_size}
 
 -- ---- one word stored
 pub put_other : (w : List ℕ) (at x o : ℕ) → o ≢ at → word_at (put w at (x ∷ [])) o ≡ word_at w o
@@ -59,12 +61,12 @@ after_marks o h = record { edge = omega arith; began = omega arith; ceased = ome
 
 -- at a numeral, by a test
 abbrev untouched : ℕ → Bool
-untouched o = not (eqb o 7) && (not (eqb o 11) && (not (eqb o 12) && (not (eqb o 14) && not (eqb o 18))))
+untouched o = not (eqb o edge_touching) && (not (eqb o started_place) && (not (eqb o stopped_place) && (not (eqb o generating_place) && not (eqb o contact_count_change))))
 
 by_test : (o : ℕ) → T (untouched o) → Untouched o
 by_test o t =
     let no : (k : ℕ) → o ≡ k → T (untouched k) = λ k e. subst (λ (m : ℕ). T (untouched m)) e t in
-    record { edge = no 7; began = no 11; ceased = no 12; generating = no 14; change = no 18 }
+    record { edge = no edge_touching; began = no started_place; ceased = no stopped_place; generating = no generating_place; change = no contact_count_change }
 
 pub settled_word : (v : Verdict) (w : List ℕ) (o : ℕ) → Untouched o → word_at (settled_words v w) o ≡ word_at w o
 unfolding settled_words
@@ -82,7 +84,7 @@ settled_word persists w o u = refl
 module _ (xs ys : List ℕ) where
   points_alike : (at n : ℕ) → ((o : ℕ) → word_at ys (at + o) ≡ word_at xs (at + o)) → points_at ys at n ≡ points_at xs at n
   unfolding points_at
-  points_alike at n s = map_upto_same _ _ n (λ k h. point_same (record { each = λ i l. further (k * 18) i }))
+  points_alike at n s = map_upto_same _ _ n (λ k h. point_same (record { each = λ i l. further (k * point_size) i }))
     where
       further : (a i : ℕ) → word_at ys (at + a + i) ≡ word_at xs (at + a + i)
       further a i = ap (word_at ys) (add_assoc at a i) ∙ s (a + i) ∙ ap (word_at xs) (sym (add_assoc at a i))
@@ -103,15 +105,15 @@ module _ (xs ys : List ℕ) where
   manifolds_alike : (at : ℕ) → ((o : ℕ) → at ≤ o → word_at ys o ≡ word_at xs o) → manifolds_at ys at ≡ manifolds_at xs at
   unfolding manifolds_at
   manifolds_alike at s =
-      ap (λ (n : ℕ). map (λ (k : ℕ). manifold_at ys (at + 1 + k * 81)) (upto n)) (s at (omega arith))
-      ∙ map_upto_same _ _ (word_at xs at) (λ k h. manifold_alike (at + 1 + k * 81) (λ o. s (at + 1 + k * 81 + o) (omega arith)))
+      ap (λ (n : ℕ). map (λ (k : ℕ). manifold_at ys (at + 1 + k * manifold_size)) (upto n)) (s at (omega arith))
+      ∙ map_upto_same _ _ (word_at xs at) (λ k h. manifold_alike (at + 1 + k * manifold_size) (λ o. s (at + 1 + k * manifold_size + o) (omega arith)))
 
 -- a record that differs at the marks and the count change alone
 module _ (w h : List ℕ) (same : (o : ℕ) → Untouched o → word_at h o ≡ word_at w o) where
   at : (o : ℕ) → T (untouched o) → word_at h o ≡ word_at w o
   at o t = same o (by_test o t)
 
-  flags_marked : {a b c : ℕ} → word_at h 11 ≡ a → word_at h 12 ≡ b → word_at h 14 ≡ c → flags_at h 9 ≡ with_status_marks (flags_at w 9) (eqb a 1) (eqb b 1) (eqb c 1)
+  flags_marked : {a b c : ℕ} → word_at h started_place ≡ a → word_at h stopped_place ≡ b → word_at h generating_place ≡ c → flags_at h contact_flags ≡ with_status_marks (flags_at w contact_flags) (eqb a 1) (eqb b 1) (eqb c 1)
   unfolding flags_at
   flags_marked p q r =
       λ i. record {
@@ -126,17 +128,17 @@ module _ (w h : List ℕ) (same : (o : ℕ) → Untouched o → word_at h o ≡ 
         modify_contacts = eqb (at 17 tt i) 1;
       }
 
-  pair_marked : (id : ℕ) {t a b c d : ℕ} → word_at h 7 ≡ t → word_at h 11 ≡ a → word_at h 12 ≡ b → word_at h 14 ≡ c → word_at h 18 ≡ d
-      → pair_at h 0 id ≡ with_status (pair_at w 0 id) (eqb t 1) (with_status_marks (flags_at w 9) (eqb a 1) (eqb b 1) (eqb c 1)) (int_of d)
+  pair_marked : (id : ℕ) {t a b c d : ℕ} → word_at h edge_touching ≡ t → word_at h started_place ≡ a → word_at h stopped_place ≡ b → word_at h generating_place ≡ c → word_at h contact_count_change ≡ d
+      → pair_at h 0 id ≡ with_status (pair_at w 0 id) (eqb t 1) (with_status_marks (flags_at w contact_flags) (eqb a 1) (eqb b 1) (eqb c 1)) (int_of d)
   unfolding pair_at edge_at
   pair_marked id e p q r n =
       let named : Same w 0 h 0 6 = record { each = λ o l. same (0 + o) (before_marks (0 + o) (omega arith)) } in
-      let cached : Same w 20 h 20 16 = record { each = λ o l. same (20 + o) (after_marks (20 + o) (omega arith)) } in
+      let cached : Same w contact_cache h contact_cache cache_size = record { each = λ o l. same (contact_cache + o) (after_marks (contact_cache + o) (omega arith)) } in
       λ i. record {
         names = names_same id named i;
         edge = record { touching = eqb (e i) 1; contact_events = eqb (at 8 tt i) 1 };
         flags = flags_marked p q r i;
-        manifolds = manifolds_alike w h 36 (λ o l. same o (after_marks o (omega arith))) i;
+        manifolds = manifolds_alike w h contact_manifolds (λ o l. same o (after_marks o (omega arith))) i;
         count_change = int_of (n i);
         speculative = of_bits binary32 (at 19 tt i);
         cache = cache_same cached i;
@@ -147,39 +149,39 @@ pub settled_pair : (v : Verdict) (w : List ℕ) (id : ℕ) → length w ≡ cont
 unfolding settled_words pair_at flags_at edge_at
 settled_pair vanishes w id l n = absurd (n refl)
 settled_pair starts w id l n =
-    let a = put w 7 (1 ∷ []) in
-    let b = put a 11 (0 ∷ []) in
-    let la = length_one w 7 1 in
-    let lb = length_one a 11 0 in
-    let past : (o : ℕ) → o ≢ 7 → o ≢ 11 → o ≢ 14 → word_at (started_words w) o ≡ word_at w o = λ o p q r. put_other b 14 0 o r ∙ put_other a 11 0 o q ∙ put_other w 7 1 o p in
+    let a = put w edge_touching (1 ∷ []) in
+    let b = put a started_place (0 ∷ []) in
+    let la = length_one w edge_touching 1 in
+    let lb = length_one a started_place 0 in
+    let past : (o : ℕ) → o ≢ edge_touching → o ≢ started_place → o ≢ generating_place → word_at (started_words w) o ≡ word_at w o = λ o p q r. put_other b generating_place 0 o r ∙ put_other a started_place 0 o q ∙ put_other w edge_touching 1 o p in
     ap Some
     (sym (pair_marked w (started_words w) (settled_word starts w) id
-    (put_other b 14 0 7 (omega arith) ∙ put_other a 11 0 7 (omega arith) ∙ put_own w 7 1 (omega arith))
-    (put_other b 14 0 11 (omega arith) ∙ put_own a 11 0 (omega arith))
-    (past 12 (omega arith) (omega arith) (omega arith))
-    (put_own b 14 0 (omega arith))
-    (past 18 (omega arith) (omega arith) (omega arith))))
+    (put_other b generating_place 0 edge_touching (omega arith) ∙ put_other a started_place 0 edge_touching (omega arith) ∙ put_own w edge_touching 1 (omega arith))
+    (put_other b generating_place 0 started_place (omega arith) ∙ put_own a started_place 0 (omega arith))
+    (past stopped_place (omega arith) (omega arith) (omega arith))
+    (put_own b generating_place 0 (omega arith))
+    (past contact_count_change (omega arith) (omega arith) (omega arith))))
 settled_pair stops w id l n =
-    let a = put w 7 (0 ∷ []) in
-    let la = length_one w 7 0 in
-    let past : (o : ℕ) → o ≢ 7 → o ≢ 12 → word_at (stopped_words w) o ≡ word_at w o = λ o p q. put_other a 12 0 o q ∙ put_other w 7 0 o p in
+    let a = put w edge_touching (0 ∷ []) in
+    let la = length_one w edge_touching 0 in
+    let past : (o : ℕ) → o ≢ edge_touching → o ≢ stopped_place → word_at (stopped_words w) o ≡ word_at w o = λ o p q. put_other a stopped_place 0 o q ∙ put_other w edge_touching 0 o p in
     ap Some
     (sym (pair_marked w (stopped_words w) (settled_word stops w) id
-    (put_other a 12 0 7 (omega arith) ∙ put_own w 7 0 (omega arith))
-    (past 11 (omega arith) (omega arith))
-    (put_own a 12 0 (omega arith))
-    (past 14 (omega arith) (omega arith))
-    (past 18 (omega arith) (omega arith))))
+    (put_other a stopped_place 0 edge_touching (omega arith) ∙ put_own w edge_touching 0 (omega arith))
+    (past started_place (omega arith) (omega arith))
+    (put_own a stopped_place 0 (omega arith))
+    (past generating_place (omega arith) (omega arith))
+    (past contact_count_change (omega arith) (omega arith))))
 settled_pair generates w id l n =
-    let past : (o : ℕ) → o ≢ 14 → word_at (put w 14 (0 ∷ [])) o ≡ word_at w o = put_other w 14 0 in
+    let past : (o : ℕ) → o ≢ generating_place → word_at (put w generating_place (0 ∷ [])) o ≡ word_at w o = put_other w generating_place 0 in
     ap Some
-    (sym (pair_marked w (put w 14 (0 ∷ [])) (settled_word generates w) id
-    (past 7 (omega arith)) (past 11 (omega arith)) (past 12 (omega arith)) (put_own w 14 0 (omega arith)) (past 18 (omega arith))))
+    (sym (pair_marked w (put w generating_place (0 ∷ [])) (settled_word generates w) id
+    (past edge_touching (omega arith)) (past started_place (omega arith)) (past stopped_place (omega arith)) (put_own w generating_place 0 (omega arith)) (past contact_count_change (omega arith))))
 settled_pair recounts w id l n =
-    let past : (o : ℕ) → o ≢ 18 → word_at (put w 18 (0 ∷ [])) o ≡ word_at w o = put_other w 18 0 in
+    let past : (o : ℕ) → o ≢ contact_count_change → word_at (put w contact_count_change (0 ∷ [])) o ≡ word_at w o = put_other w contact_count_change 0 in
     ap Some
-    (sym (pair_marked w (put w 18 (0 ∷ [])) (settled_word recounts w) id
-    (past 7 (omega arith)) (past 11 (omega arith)) (past 12 (omega arith)) (past 14 (omega arith)) (put_own w 18 0 (omega arith))))
+    (sym (pair_marked w (put w contact_count_change (0 ∷ [])) (settled_word recounts w) id
+    (past edge_touching (omega arith)) (past started_place (omega arith)) (past stopped_place (omega arith)) (past generating_place (omega arith)) (put_own w contact_count_change 0 (omega arith))))
 settled_pair persists w id l n = refl
 
 -- ---- the range
@@ -195,17 +197,17 @@ pub settled_mark : (v : Verdict) (w : List ℕ) (o : ℕ) → length w ≡ conta
 unfolding settled_words
 settled_mark vanishes w o l m = m
 settled_mark starts w o l m =
-    let a = put w 7 (1 ∷ []) in
-    let b = put a 11 (0 ∷ []) in
-    let la = length_one w 7 1 in
-    let lb = length_one a 11 0 in
-    put_mark b 14 0 o (omega arith) (omega arith) (put_mark a 11 0 o (omega arith) (omega arith) (put_mark w 7 1 o (omega arith) (omega arith) m))
+    let a = put w edge_touching (1 ∷ []) in
+    let b = put a started_place (0 ∷ []) in
+    let la = length_one w edge_touching 1 in
+    let lb = length_one a started_place 0 in
+    put_mark b generating_place 0 o (omega arith) (omega arith) (put_mark a started_place 0 o (omega arith) (omega arith) (put_mark w edge_touching 1 o (omega arith) (omega arith) m))
 settled_mark stops w o l m =
-    let a = put w 7 (0 ∷ []) in
-    let la = length_one w 7 0 in
-    put_mark a 12 0 o (omega arith) (omega arith) (put_mark w 7 0 o (omega arith) (omega arith) m)
-settled_mark generates w o l m = put_mark w 14 0 o (omega arith) (omega arith) m
-settled_mark recounts w o l m = put_mark w 18 0 o (omega arith) (omega arith) m
+    let a = put w edge_touching (0 ∷ []) in
+    let la = length_one w edge_touching 0 in
+    put_mark a stopped_place 0 o (omega arith) (omega arith) (put_mark w edge_touching 0 o (omega arith) (omega arith) m)
+settled_mark generates w o l m = put_mark w generating_place 0 o (omega arith) (omega arith) m
+settled_mark recounts w o l m = put_mark w contact_count_change 0 o (omega arith) (omega arith) m
 settled_mark persists w o l m = m
 
 module _ (v : Verdict) (w : List ℕ) (l : length w ≡ contact_size) (f : Fitting w 0) where
@@ -231,8 +233,8 @@ module _ (v : Verdict) (w : List ℕ) (l : length w ≡ contact_size) (f : Fitti
         collider2 = rw (early 1 (omega arith)) f.collider2;
         body1 = optional_kept 2 (omega arith) f.body1;
         body2 = optional_kept 4 (omega arith) f.body2;
-        marks = λ k b. settled_mark v w (7 + k) l (f.marks k b);
-        cache = rw (late 20 (omega arith)) f.cache;
-        manifolds = rw (late 36 (omega arith)) f.manifolds;
-        points = λ k b. let c : k < word_at w 36 = rw (late 36 (omega arith)) at b in rw (late (37 + k * 81) (omega arith)) (f.points k c);
+        marks = λ k b. settled_mark v w (contact_edge_flags + k) l (f.marks k b);
+        cache = rw (late contact_cache (omega arith)) f.cache;
+        manifolds = rw (late contact_manifolds (omega arith)) f.manifolds;
+        points = λ k b. let c : k < word_at w contact_manifolds = rw (late contact_manifolds (omega arith)) at b in rw (late (contact_manifolds + 1 + k * manifold_size) (omega arith)) (f.points k c);
       }

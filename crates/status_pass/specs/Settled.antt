@@ -2,17 +2,17 @@
 use Rattle.std.specs.Prelude.{ℕ, List, [], ◌∷◌}
 use Rattle.rows.specs.Rows.{put}
 use Rattle.rules.specs.Status.{Verdict, vanishes, starts, stops, generates, recounts, persists}
-use Rattle.layout.specs.Contact.{contact_count_change, contact_edge_flags}
+use Rattle.layout.specs.Contact.{contact_count_change, contact_edge_flags, pair_started_generating_constraints, pair_started_touching, pair_stopped_touching}
 
 -- the edge's TOUCHING, and the pair's STARTED_TOUCHING, STOPPED_TOUCHING and STARTED_GENERATING_CONSTRAINTS
 abbrev pub started_place : ℕ
-started_place = 11
+started_place = pair_started_touching
 
 abbrev pub stopped_place : ℕ
-stopped_place = 12
+stopped_place = pair_stopped_touching
 
 abbrev pub generating_place : ℕ
-generating_place = 14
+generating_place = pair_started_generating_constraints
 
 abbrev pub started_words : List ℕ → List ℕ
 started_words w = put (put (put w contact_edge_flags (1 ∷ [])) started_place (0 ∷ [])) generating_place (0 ∷ [])

@@ -8,6 +8,7 @@ use Rattle.rules.specs.Update.{non_zero}
 use Rattle.rules.specs.Status.{pick, verdict}
 use Rattle.words.specs.Words.{word_at}
 use Rattle.contact_records.specs.Recorded.{int_of, flags_at, pair_at}
+use Rattle.layout.specs.Contact.{contact_count_change, contact_flags}
 
 -- a count change is 0 where its word is
 non_zero_word : (w : ℕ) → non_zero (int_of w) ≡ not (eqb w 0)
@@ -18,7 +19,7 @@ non_zero_word (suc n) = go (ltb (suc n) (2 ^ 31)) ∙ sym (ap not (ne_eqb (suc n
     go true = refl
     go false = refl
 
-module _ (w : List ℕ) (f : PairFlags) (e : f ≡ flags_at w 9) (change : ℕ) (c : change ≡ word_at w 18) where
+module _ (w : List ℕ) (f : PairFlags) (e : f ≡ flags_at w contact_flags) (change : ℕ) (c : change ≡ word_at w contact_count_change) where
   abbrev touched : Bool
   touched = f.touching && f.started_generating
 
@@ -29,7 +30,7 @@ module _ (w : List ℕ) (f : PairFlags) (e : f ≡ flags_at w 9) (change : ℕ) 
   unfolding pair_at
   tests id =
       (λ i. pick (e i).disjoint_aabb (e i).started_touching (e i).stopped_touching ((e i).touching && (e i).started_generating)
-      ((e i).touching && ((e i).generate_constraints && (ap (λ (n : ℕ). not (eqb n 0)) c ∙ sym (non_zero_word (word_at w 18))) i)))
+      ((e i).touching && ((e i).generate_constraints && (ap (λ (n : ℕ). not (eqb n 0)) c ∙ sym (non_zero_word (word_at w contact_count_change))) i)))
 
   -- what the five tests give
   pub picked : (id : ℕ) {a b d t u : Bool} → f.disjoint_aabb ≡ a → f.started_touching ≡ b → f.stopped_touching ≡ d → touched ≡ t → counted ≡ u → pick a b d t u ≡ verdict (pair_at w 0 id)

@@ -28,6 +28,8 @@ use Rattle.status_pass.specs.SettleLaws.{settled_length}
 use Rattle.status_pass.specs.Verdicts.{plain_verdict, VerdictIs}
 use Rattle.status_pass.specs.declared.verdict.Verdict.{Verdict}
 use Rattle.status_pass.specs.declared.visit.WrittenCounts.{WrittenCounts}
+use Rattle.layout.specs.Change.{change_size}
+use Rattle.layout.specs.Event.{event_size}
 
 -- ---- the contact's own record, as it is lent on
 module _ {g : List ℕ} (id : ℕ) (c : Checked g) (s : stands g id ≡ true) {at n : ℕ} (p : at ≡ contact_at g id) (q : n ≡ contact_size) where
@@ -88,12 +90,12 @@ optional_size (Some n) = refl
 named_size : (n : Names) → length (optional_words n.body1 ++ optional_words n.body2) ≡ 4
 named_size n = length-append (optional_words n.body1) (optional_words n.body2) ∙ (λ i. optional_size n.body1 i + optional_size n.body2 i)
 
-event_size_lem : (e : Event) → length (event_words e) ≡ 8
+event_size_lem : (e : Event) → length (event_words e) ≡ event_size
 unfolding event_words
 event_size_lem (started n) = let e = named_size n in omega arith
 event_size_lem (ended n) = let e = named_size n in omega arith
 
-change_size_lem : (c : Change) → length (change_words c) ≡ 5
+change_size_lem : (c : Change) → length (change_words c) ≡ change_size
 unfolding change_words
 change_size_lem (start id) = refl
 change_size_lem (stop id a b) = refl
@@ -112,8 +114,8 @@ module _ (g es cs : List ℕ) where
       let w = subst (λ (x : List ℕ). VisitDone x es' cs' id counts.events counts.changes h' es'' cs'' r) l.graph d in
       record {
         graph = w.graph;
-        events = appended_next event_words 8 event_size_lem l.events w.events;
-        changes = appended_next change_words 5 change_size_lem l.changes w.changes;
+        events = appended_next event_words event_size event_size_lem l.events w.events;
+        changes = appended_next change_words change_size change_size_lem l.changes w.changes;
       }
 
   -- the loop: after k visits there is room for the next, and then for the rest

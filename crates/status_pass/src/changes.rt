@@ -44,6 +44,7 @@ fn change_of(words: &[u32; CONTACT_SIZE], v: Verdict) -> Option<ContactStatusCha
     }
 }
 
+#[tactic(auto, using(crate::specs::ListedLaws::count_stored), unfolding(crate::specs::EventsAndChanges::change_words))]
 fn change_words(
     words: &[u32; CONTACT_SIZE],
     id: ContactId,

@@ -39,6 +39,7 @@ fn event_of(words: &[u32; CONTACT_SIZE], v: Verdict) -> Option<EventKind>
     }
 }
 
+#[tactic(auto, using(crate::specs::ListedLaws::event_stored))]
 fn event_words(words: &[u32; CONTACT_SIZE], id: ContactId, kind: EventKind) -> [u32; EVENT_SIZE]
     ensures { result ≡ event_words (event_by kind (names_at words.now 0 id.0)) }
 {

@@ -6,14 +6,13 @@ ghost use Rattle.status_pass.specs.Settled.{started_words, stopped_words, settle
 
 use crate::verdict::Verdict;
 use layout::contact::{
-    CONTACT_COUNT_CHANGE, EDGE_TOUCHING, PAIR_STARTED_GENERATING_CONSTRAINTS,
+    CONTACT_COUNT_CHANGE, CONTACT_SIZE, EDGE_TOUCHING, PAIR_STARTED_GENERATING_CONSTRAINTS,
     PAIR_STARTED_TOUCHING, PAIR_STOPPED_TOUCHING,
 };
 use words::store::store;
 
 // The edge touches, and both started marks are cleared.
-fn settle_started(words: &mut [u32])
-    requires { length words.old ≡ contact_size }
+fn settle_started(words: &mut [u32; CONTACT_SIZE])
     ensures { words.new ≡ started_words words.old }
 {
     store(words, EDGE_TOUCHING, 1);
@@ -21,24 +20,26 @@ fn settle_started(words: &mut [u32])
     store(words, PAIR_STARTED_GENERATING_CONSTRAINTS, 0);
 }
 
-fn settle_stopped(words: &mut [u32])
-    requires { length words.old ≡ contact_size }
+fn settle_stopped(words: &mut [u32; CONTACT_SIZE])
     ensures { words.new ≡ stopped_words words.old }
 {
     store(words, EDGE_TOUCHING, 0);
     store(words, PAIR_STOPPED_TOUCHING, 0);
 }
 
+#[tactic(auto, unfolding(crate::specs::Settled::settled_words))]
 pub fn settle(words: &mut [u32], v: Verdict)
     requires { length words.old ≡ contact_size }
     ensures { words.new ≡ settled_words (plain_verdict v) words.old }
 {
+    let Some(own) = words.as_mut_array::<CONTACT_SIZE>() else {
+        unreachable!()
+    };
     match v {
-        Verdict::Vanishes => {}
-        Verdict::Starts => settle_started(words),
-        Verdict::Stops => settle_stopped(words),
-        Verdict::Generates => store(words, PAIR_STARTED_GENERATING_CONSTRAINTS, 0),
-        Verdict::Recounts => store(words, CONTACT_COUNT_CHANGE, 0),
-        Verdict::Persists => {}
+        Verdict::Starts => settle_started(own),
+        Verdict::Stops => settle_stopped(own),
+        Verdict::Generates => store(own, PAIR_STARTED_GENERATING_CONSTRAINTS, 0),
+        Verdict::Recounts => store(own, CONTACT_COUNT_CHANGE, 0),
+        Verdict::Vanishes | Verdict::Persists => {}
     }
 }

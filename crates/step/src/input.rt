@@ -1,6 +1,6 @@
 // What a step reads.
 
-// The rows that are lent to read. Those that are written, and the graph, stand apart in each call: a `&mut` in a struct hides from the caller what is written through it.
+// The rows that are lent to read. Those that are written, and the graph, stand apart: in a struct each would want a clause more, that it is still the row lent (as `text::writer::Writer` has).
 #[derive(Clone, Copy)]
 pub struct StepInput<'a> {
     pub settings: &'a [u32],

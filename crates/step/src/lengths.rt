@@ -18,18 +18,20 @@ use layout::shares::SHARES_ENTRIES;
 use words::load::load;
 
 // What is lent to read.
+#[tactic(auto, unfolding(crate::specs::Step::given_long))]
 fn given_long(input: &StepInput<'_>, capacity: usize) -> bool
     requires { capacity ≤ most_contacts }
     ensures { result ≡ given_long (given_rows input.now) capacity }
 {
-    (input.settings.len() == SETTINGS_LENGTH)
-        & ((input.colliders.len() == COLLIDERS_LENGTH)
-            & ((input.bodies.len() == BODIES_LENGTH)
-                & ((input.proposals.len() == capacity * PROPOSAL_SIZE)
-                    & (input.shares.len() == SHARES_ENTRIES + capacity))))
+    input.settings.len() == SETTINGS_LENGTH
+        && input.colliders.len() == COLLIDERS_LENGTH
+        && input.bodies.len() == BODIES_LENGTH
+        && input.proposals.len() == capacity * PROPOSAL_SIZE
+        && input.shares.len() == SHARES_ENTRIES + capacity
 }
 
 // What is lent to write, beside the graph.
+#[tactic(auto, unfolding(crate::specs::Step::rows_long))]
 fn rows_long(
     bits: &[u64],
     events: &[u32],
@@ -41,11 +43,13 @@ fn rows_long(
     ensures { result ≡ rows_long (rows bits.now events.now changes.now distances.now) capacity }
 {
     let count = blocks(capacity);
-    (bits.len() == MOST_WORKERS * count)
-        & ((events.len() == capacity * EVENT_SIZE)
-            & ((changes.len() == capacity * CHANGE_SIZE) & (distances.len() == capacity)))
+    bits.len() == MOST_WORKERS * count
+        && events.len() == capacity * EVENT_SIZE
+        && changes.len() == capacity * CHANGE_SIZE
+        && distances.len() == capacity
 }
 
+#[tactic(auto, unfolding(crate::specs::Step::lengths_fit))]
 pub fn lengths_fit(
     input: &StepInput<'_>,
     graph: &[u32],
@@ -60,8 +64,5 @@ pub fn lengths_fit(
         return false;
     }
     let capacity = load::<usize>(graph, GRAPH_CAPACITY);
-    if !given_long(input, capacity) {
-        return false;
-    }
-    rows_long(bits, events, changes, distances, capacity)
+    given_long(input, capacity) && rows_long(bits, events, changes, distances, capacity)
 }

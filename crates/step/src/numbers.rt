@@ -45,21 +45,14 @@ pub fn proposals_fit(proposals: &[u32], graph: &[u32]) -> bool
     (0..listed).all(|p| proposal_fits(proposals, proposal_at(graph, p)))
 }
 
+#[tactic(auto, using(contact_graph::specs::CallLaws::checked), unfolding(crate::specs::Step::rows_in_range))]
 pub fn numbers_fit(input: &StepInput<'_>, graph: &[u32]) -> bool
     requires { (length input.now.settings.now ≡ settings_length) × (length input.now.colliders.now ≡ colliders_length) × (length input.now.bodies.now ≡ bodies_length) × (length input.now.proposals.now ≡ capacity_of graph.now * proposal_size) × (right_length graph.now ≡ true) }
     ensures { result ≡ numbers_fit (given_rows input.now) graph.now }
 {
-    if !settings_fit(input.settings) {
-        return false;
-    }
-    if !colliders_fit(input.colliders) {
-        return false;
-    }
-    if !bodies_fit(input.bodies) {
-        return false;
-    }
-    if !in_range(graph) {
-        return false;
-    }
-    hooks_fit(input.proposals, graph)
+    settings_fit(input.settings)
+        && colliders_fit(input.colliders)
+        && bodies_fit(input.bodies)
+        && in_range(graph)
+        && hooks_fit(input.proposals, graph)
 }

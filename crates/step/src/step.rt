@@ -40,7 +40,7 @@ fn step_accepted(
     let recycled = update_all(&read, input.shares, graph, bits, distances);
     let mut ids = [0u32; MOST_CONTACTS];
     let n = standing(bits, count, &mut ids);
-    let counts = pass(graph, events, changes, &ids, n);
+    let counts = pass(graph, events, changes, &ids[..n]);
     StepReport {
         events: counts.events as u32,
         changes: counts.changes as u32,
@@ -64,12 +64,10 @@ pub fn step(
     if !numbers_fit(input, graph) {
         return Err(Refusal::OutOfRange);
     }
-    let too_large = !proposals_fit(input.proposals, graph);
-    let invalid = !shares_fit(input.shares, graph);
-    if too_large {
+    if !proposals_fit(input.proposals, graph) {
         return Err(Refusal::ProposalTooLarge);
     }
-    if invalid {
+    if !shares_fit(input.shares, graph) {
         return Err(Refusal::InvalidShares);
     }
     Ok(step_accepted(input, graph, bits, events, changes, distances))

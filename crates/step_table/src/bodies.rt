@@ -2,7 +2,7 @@
 use crate::choices::choice;
 use case_draws::draws::{Floats, draw, pick, slot, style};
 use case_draws::numbers::{BODY_CENTER_OF_MASS, BODY_POSITION, BODY_ROTATION, BODY_SIZE};
-use case_draws::places::{put, word};
+use case_draws::places::{nth_place, put, word};
 use math::bits::{bits_of, float_of};
 
 // 0.001, -0.002, 0.004, 0.01, -0.02, 0.04, 0.1, 0.5.
@@ -47,7 +47,7 @@ fn moved_word(owner: u32, i: u32, wild: bool, w: u32) -> u32 {
 fn move_body(bodies: &mut [u32], n: u32, wild: bool, call: u32) {
     let owner = draw(call, slot(20, n));
     for i in BODY_POSITION..BODY_CENTER_OF_MASS {
-        let at = BODY_SIZE.wrapping_mul(n).wrapping_add(i);
+        let at = nth_place(n, BODY_SIZE, i);
         put(bodies, at, moved_word(owner, i, wild, word(bodies, at)));
     }
 }

@@ -93,7 +93,7 @@ impl List {
         for n in 0..call_count(self.key) {
             write!(out, "{}\t{n}", self.number)?;
             self.print_call(out, &mut given, graph, &mut written, n)?;
-            write!(out, "\t{:08X}", Hash::of_graph(graph).0)?;
+            write!(out, "\t{}", Hash::of_graph(graph))?;
             written.print_hashes(out, self.capacity)?;
             writeln!(out)?;
         }

@@ -5,7 +5,7 @@ use crate::given::LARGEST;
 use case_draws::draws::{draw, slot};
 
 // Past every limit, so that a call that is given it is refused.
-pub const NO_NUMBER: u32 = 0xffff_ffff;
+pub const NO_NUMBER: u32 = u32::MAX;
 
 pub fn choice(key: u32, slot: u32) -> u32 {
     draw(draw(key, slot), 0)

@@ -3,11 +3,9 @@ use crate::bodies::move_bodies;
 use crate::choices::{below, choice};
 use crate::proposal_draws::fill_proposals;
 use crate::share_draws::fill_shares;
-use case_draws::bodies::body_word;
-use case_draws::colliders::collider_word;
-use case_draws::numbers::{BODY_SIZE, COLLIDER_SIZE};
-use case_draws::places::{fill, fill_nth};
-use case_draws::settings::setting_word;
+use case_draws::bodies::fill_body;
+use case_draws::colliders::fill_collider;
+use case_draws::settings::fill_settings;
 use layout::body::BODIES_LENGTH;
 use layout::collider::COLLIDERS_LENGTH;
 use layout::proposal::PROPOSAL_SIZE;
@@ -42,31 +40,20 @@ impl Given {
             proposals: [0; PROPOSALS_LENGTH],
             shares: [0; SHARES_LENGTH],
         };
-        given.fill_settings(key);
+        fill_settings(&mut given.settings, key);
         given.fill_all(count, key);
         given
     }
 
-    fn fill_settings(&mut self, key: u32) {
-        fill(&mut self.settings, 0, SETTINGS_LENGTH as u32, |i| {
-            setting_word(key, i)
-        });
-    }
-
-    fn fill_collider(&mut self, n: u32, key: u32) {
-        fill_nth(&mut self.colliders, n, COLLIDER_SIZE, |i| {
-            collider_word(key, n, i)
-        });
-    }
-
-    fn fill_body(&mut self, n: u32, key: u32) {
-        fill_nth(&mut self.bodies, n, BODY_SIZE, |i| body_word(key, n, i));
+    // A collider and its body.
+    fn fill(&mut self, n: u32, key: u32) {
+        fill_collider(&mut self.colliders, n, key);
+        fill_body(&mut self.bodies, n, key);
     }
 
     fn fill_all(&mut self, count: u32, key: u32) {
         for n in 0..count {
-            self.fill_collider(n, key);
-            self.fill_body(n, key);
+            self.fill(n, key);
         }
     }
 
@@ -75,12 +62,9 @@ impl Given {
         let one = below(choice(call, 63), count);
         match choice(call, 62) % 16 {
             0 => self.fill_all(count, call),
-            1..=3 => {
-                self.fill_collider(one, call);
-                self.fill_body(one, call);
-            }
-            4 | 5 => self.fill_collider(one, call),
-            6 => self.fill_body(one, call),
+            1..=3 => self.fill(one, call),
+            4 | 5 => fill_collider(&mut self.colliders, one, call),
+            6 => fill_body(&mut self.bodies, one, call),
             7..=12 => move_bodies(&mut self.bodies, count, one, call),
             _ => {}
         }
@@ -89,7 +73,7 @@ impl Given {
     // Before a step.
     pub fn change(&mut self, graph: &[u32], count: u32, call: u32) {
         if choice(call, 61) % 8 == 0 {
-            self.fill_settings(call);
+            fill_settings(&mut self.settings, call);
         }
         self.change_things(count, call);
         fill_proposals(&mut self.proposals, graph, call);

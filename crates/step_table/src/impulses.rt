@@ -35,6 +35,7 @@ fn write_record(graph: &mut [u32], from: u32, owner: u32) {
     }
 }
 
+// By index, since the graph that lists the ids is written meanwhile.
 pub fn write_impulses(graph: &mut [u32], call: u32) {
     for q in 0..listed(graph) {
         let id = listed_id(graph, q);

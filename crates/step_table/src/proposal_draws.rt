@@ -2,24 +2,22 @@
 use crate::choices::{below, choice, over};
 use crate::graph::inactive_id;
 use case_draws::draws::slot;
-use case_draws::graph::{listed, listed_id};
-use case_draws::manifolds::proposal_word;
+use case_draws::graph::{listed, listed_id, listed_ids};
+use case_draws::manifolds::fill_proposal;
 use case_draws::numbers::{
     GRAPH_CAPACITY, MANIFOLDS, PROPOSAL_COUNT, PROPOSAL_MANIFOLDS, PROPOSAL_SIZE,
     PROPOSED_MANIFOLD_COUNT, PROPOSED_MANIFOLD_SIZE, PROPOSED_POINTS,
 };
-use case_draws::places::{fill_nth, put, word};
+use case_draws::places::{nth_place, put, word};
 
 // The i-th word of an id's proposal.
 fn place(id: u32, i: u32) -> u32 {
-    PROPOSAL_SIZE.wrapping_mul(id).wrapping_add(i)
+    nth_place(id, PROPOSAL_SIZE, i)
 }
 
 fn fill_listed(proposals: &mut [u32], graph: &[u32], call: u32) {
-    for q in 0..listed(graph) {
-        let id = listed_id(graph, q);
-        let case = choice(call, slot(300, id));
-        fill_nth(proposals, id, PROPOSAL_SIZE, |i| { proposal_word(case, i) });
+    for &id in listed_ids(graph) {
+        fill_proposal(proposals, id, choice(call, slot(300, id)));
     }
 }
 
@@ -38,27 +36,21 @@ fn overfill(proposals: &mut [u32], graph: &[u32], call: u32) {
     let id = listed_id(graph, below(e, count));
     let other = inactive_id(graph, call);
     match d % 24 {
-        0 => if 0 < count {
-            put(
-                proposals,
-                place(id, PROPOSAL_COUNT),
-                over(MANIFOLDS, d / 24),
-            );
-        },
-        1 => if 0 < count {
-            put(
-                proposals,
-                place(id, count_place(e / 64)),
-                over(PROPOSED_POINTS, d / 24),
-            );
-        },
-        2 => if other < word(graph, GRAPH_CAPACITY) {
-            put(
-                proposals,
-                place(other, PROPOSAL_COUNT),
-                over(MANIFOLDS, d / 24),
-            );
-        },
+        0 if 0 < count => put(
+            proposals,
+            place(id, PROPOSAL_COUNT),
+            over(MANIFOLDS, d / 24),
+        ),
+        1 if 0 < count => put(
+            proposals,
+            place(id, count_place(e / 64)),
+            over(PROPOSED_POINTS, d / 24),
+        ),
+        2 if other < word(graph, GRAPH_CAPACITY) => put(
+            proposals,
+            place(other, PROPOSAL_COUNT),
+            over(MANIFOLDS, d / 24),
+        ),
         _ => {}
     }
 }

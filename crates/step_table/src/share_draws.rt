@@ -58,43 +58,30 @@ fn too_many_workers(shares: &mut [u32], x: u32, call: u32) {
     fill(shares, unused, past(SHARES_ENTRIES, unused), |_| 0);
 }
 
-// A fault in the ids, where some are listed: one twice in another's place, one more, one not counted, one that is not active.
-fn spoil_ids(shares: &mut [u32], graph: &[u32], call: u32, fault: u32) {
+// No workers, too many; where some ids are listed one twice in another's place, one more, one not counted, one that is not active;
+// one more that is not active, a count out of all bounds.
+fn spoil(shares: &mut [u32], graph: &[u32], call: u32) {
+    let d = choice(call, 68);
     let count = listed(graph);
+    let capacity = word(graph, GRAPH_CAPACITY);
     let first = word(shares, SHARES_ENTRIES);
-    match fault {
+    let other = inactive_id(graph, call);
+    match d % 48 {
+        0 => put(shares, SHARES_WORKERS, 0),
+        1 => too_many_workers(shares, d / 48, call),
+        2..=5 if count == 0 => {}
         2 => put(
             shares,
             SHARES_ENTRIES,
             word(shares, slot(BEFORE_ENTRIES, count)),
         ),
-        3 => append(shares, count, word(graph, GRAPH_CAPACITY), first, call),
+        3 => append(shares, count, capacity, first, call),
         4 => {
             let last = worker_place(call, past(count, 1));
             put(shares, last, past(word(shares, last), 1));
         }
-        5 => put(shares, SHARES_ENTRIES, inactive_id(graph, call)),
-        _ => {}
-    }
-}
-
-// No workers, too many, a fault in the ids, one more id that is not active, a count out of all bounds.
-fn spoil(shares: &mut [u32], graph: &[u32], call: u32) {
-    let d = choice(call, 68);
-    let count = listed(graph);
-    match d % 48 {
-        0 => put(shares, SHARES_WORKERS, 0),
-        1 => too_many_workers(shares, d / 48, call),
-        2..=5 => if 0 < count {
-            spoil_ids(shares, graph, call, d % 48);
-        },
-        6 => append(
-            shares,
-            count,
-            word(graph, GRAPH_CAPACITY),
-            inactive_id(graph, call),
-            call,
-        ),
+        5 => put(shares, SHARES_ENTRIES, other),
+        6 => append(shares, count, capacity, other, call),
         7 => put(shares, SHARES_COUNTS, NO_NUMBER),
         _ => {}
     }

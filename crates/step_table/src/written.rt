@@ -83,10 +83,6 @@ impl Written {
         let events = Hash::of_words(&self.events, event_words);
         let changes = Hash::of_words(&self.changes, change_words);
         let distances = Hash::of_words(&self.distances, capacity);
-        write!(
-            out,
-            "\t{:08X}\t{:08X}\t{:08X}",
-            events.0, changes.0, distances.0
-        )
+        write!(out, "\t{events}\t{changes}\t{distances}")
     }
 }

@@ -1,11 +1,12 @@
 -- Hexadecimal digits and words at a place of a text. Assumes nothing.
-use Rattle.std.specs.Prelude.{◌≡◌, refl, ℕ, zero, suc, ◌+◌, ◌-◌, ◌*◌, ◌^◌, ◌≤◌, ◌<◌, Bool, true, false, ◌&&◌, ◌⊎◌, leb, List, [], ◌∷◌, length, get_or, drop, Option, None, Some}
+use Rattle.std.specs.Prelude.{◌≡◌, refl, ℕ, zero, suc, ◌+◌, ◌-◌, ◌*◌, ◌^◌, ◌≤◌, ◌<◌, Bool, true, false, ◌&&◌, ◌⊎◌, leb, List, [], ◌∷◌, length, get_or, take, drop, Option, None, Some}
 use Rattle.std.specs.Char.{digit_value}
 use Rattle.std.specs.Option.{SomeIff}
-use Rattle.std.proofs.Common.{sym, ap, ap₂, ◌∙◌, pow-suc, not-suc-le-zero, add-zero, add-one, arith, inl, inr, le-leb, drop_of_length-le, drop-cons}
+use Rattle.std.proofs.Common.{sym, ap, ap₂, ◌∙◌, pow-suc, not-suc-le-zero, le_of_suc-le-suc, add-zero, add-one, arith, inl, inr, le-leb, length-take, length-drop, drop-cons}
 use Rattle.std.proofs.Math.Nat.{pow-le-pow_right}
 use Rattle.std.proofs.Math.Numerals.{unary_clauses}
 use Rattle.std.proofs.lemmas.Bool.{lt-leb}
+use Rattle.std.proofs.lemmas.List.{get_or-take, get_or-drop}
 use Rattle.text.specs.Text.{after, within, hex_digit, digits, word}
 use Rattle.text.specs.Answers.{HexDigitRead, WordRead}
 
@@ -62,51 +63,64 @@ hex_digit_read b (Some d) h = record { value = hex_value b (hex_ranges b h.0) �
 
 pub record WordTo (xs : List ℕ) (at k v : ℕ) : Type 0 where
   pub some_left : k ≤ 8
-  pub inside : at + k ≤ length xs
   pub small : v < 16 ^ k
   pub read : word (drop at xs) ≡ digits (8 - k) v (drop (at + k) xs)
 
-pub word_begins : (xs : List ℕ) (at : ℕ) → at < length xs → WordTo xs at 0 0
+pub word_begins : (xs : List ℕ) (at : ℕ) → WordTo xs at 0 0
 unfolding word
-word_begins xs at h =
-    record { some_left = omega arith; inside = omega (arith, h); small = omega arith; read = ap (λ (n : ℕ). digits 8 0 (drop n xs)) (sym (add-zero at)) }
+word_begins xs at = record { some_left = omega arith; small = omega arith; read = ap (λ (n : ℕ). digits 8 0 (drop n xs)) (sym (add-zero at)) }
 
 no_word : (xs : List ℕ) (at : ℕ) → word (drop at xs) ≡ None → WordRead xs at None
 no_word xs at e = record { read = e; inside = tt }
 
-none_left : (n v : ℕ) → 0 < n → digits n v [] ≡ None
+-- fewer bytes than digits
+too_few : (n v : ℕ) (xs : List ℕ) → length xs < n → digits n v xs ≡ None
 unfolding digits
-none_left zero v p = absurd (not-suc-le-zero p)
-none_left (suc n) v p = refl
+too_few zero v xs h = absurd (not-suc-le-zero h)
+too_few (suc n) v [] h = refl
+too_few (suc n) v (x ∷ xs) h = by_digit (hex_digit x) (λ w. too_few n w xs (le_of_suc-le-suc h))
+  where
+    by_digit : (o : Option ℕ) → ((w : ℕ) → digits n w xs ≡ None) → after o (λ d. digits n (v * 16 + d) xs) ≡ None
+    by_digit None f = refl
+    by_digit (Some d) f = f (v * 16 + d)
 
-pub word_past : (xs : List ℕ) (at : ℕ) → length xs ≤ at → WordRead xs at None
+pub word_short : (xs : List ℕ) (at : ℕ) → length xs < at + 8 → WordRead xs at None
 unfolding word
-word_past xs at h = no_word xs at (rw (drop_of_length-le xs h) (none_left 8 0 (omega arith)))
-
-pub word_short : (xs : List ℕ) (at k v : ℕ) → WordTo xs at k v → k < 8 → length xs ≤ at + k → WordRead xs at None
-word_short xs at k v w h l = no_word xs at (w.read ∙ rw (drop_of_length-le xs l) (none_left (8 - k) v (omega arith)))
+word_short xs at h = no_word xs at (too_few 8 0 (drop at xs) (omega (arith, length-drop at xs)))
 
 digits_cons : (n v x : ℕ) (xs : List ℕ) → 0 < n → digits n v (x ∷ xs) ≡ after (hex_digit x) (λ d. digits (n - 1) (v * 16 + d) xs)
 unfolding digits
 digits_cons zero v x xs p = absurd (not-suc-le-zero p)
 digits_cons (suc n) v x xs p = simp unary_clauses
 
-word_digit : (xs : List ℕ) (at k v : ℕ) → WordTo xs at k v → k < 8 → at + k < length xs
-    → word (drop at xs) ≡ after (hex_digit (get_or xs (at + k) 0)) (λ d. digits (8 - (k + 1)) (v * 16 + d) (drop (at + (k + 1)) xs))
-word_digit xs at k v w h l =
-    let e : 8 - k - 1 ≡ 8 - (k + 1) = omega arith in
-    let f : suc (at + k) ≡ at + (k + 1) = omega arith in
-    w.read ∙ ap (digits (8 - k) v) (drop-cons xs (at + k) 0 l) ∙ digits_cons (8 - k) v (get_or xs (at + k) 0) (drop (suc (at + k)) xs) (omega arith)
-    ∙ ap₂ (λ (n m : ℕ). after (hex_digit (get_or xs (at + k) 0)) (λ d. digits n (v * 16 + d) (drop m xs))) e f
+-- its eight bytes, as they are borrowed from the text
+module _ (xs left eight : List ℕ) (at : ℕ) (l : left ≡ take (length xs - at) (drop at xs)) (enough : 8 ≤ length left) (same : eight ≡ take 8 left) where
+  pub eight_inside : at + 8 ≤ length xs
+  eight_inside = omega (arith, ap length l, enough, length-take (length xs - at) (drop at xs), length-drop at xs)
 
-pub word_bad : (xs : List ℕ) (at k v : ℕ) → WordTo xs at k v → k < 8 → at + k < length xs → hex_digit (get_or xs (at + k) 0) ≡ None → WordRead xs at None
-word_bad xs at k v w h l e = no_word xs at (word_digit xs at k v w h l ∙ rw e)
+  byte_at : (k : ℕ) → k < 8 → get_or eight k 0 ≡ get_or xs (at + k) 0
+  byte_at k h =
+      let i : k < length xs - at = omega (arith, eight_inside) in
+      ap (λ (bs : List ℕ). get_or bs k 0) (same ∙ ap (take 8) l) ∙ get_or-take 8 (take (length xs - at) (drop at xs)) k 0 h
+      ∙ get_or-take (length xs - at) (drop at xs) k 0 i ∙ get_or-drop at xs k 0
 
-pub word_next : (xs : List ℕ) (at k v d : ℕ) → WordTo xs at k v → k < 8 → at + k < length xs → hex_digit (get_or xs (at + k) 0) ≡ Some d → d < 16
-    → WordTo xs at (k + 1) (v * 16 + d)
-word_next xs at k v d w h l e s =
-    let p : 16 ^ (k + 1) ≡ 16 ^ k * 16 = ap (λ (n : ℕ). 16 ^ n) (add-one k) ∙ pow-suc 16 k in
-    record { some_left = omega arith; inside = omega (arith, l); small = omega (arith, w.small); read = word_digit xs at k v w h l ∙ rw e }
+  module _ (k v : ℕ) (w : WordTo xs at k v) (h : k < 8) where
+    word_digit : word (drop at xs) ≡ after (hex_digit (get_or eight k 0)) (λ d. digits (8 - (k + 1)) (v * 16 + d) (drop (at + (k + 1)) xs))
+    word_digit =
+        let e : 8 - k - 1 ≡ 8 - (k + 1) = omega arith in
+        let f : suc (at + k) ≡ at + (k + 1) = omega arith in
+        w.read ∙ ap (digits (8 - k) v) (drop-cons xs (at + k) 0 (omega (arith, eight_inside)))
+        ∙ digits_cons (8 - k) v (get_or xs (at + k) 0) (drop (suc (at + k)) xs) (omega arith)
+        ∙ ap₂ (λ (n m : ℕ). after (hex_digit (get_or xs (at + k) 0)) (λ d. digits n (v * 16 + d) (drop m xs))) e f
+        ∙ ap (λ (b : ℕ). after (hex_digit b) (λ d. digits (8 - (k + 1)) (v * 16 + d) (drop (at + (k + 1)) xs))) (sym (byte_at k h))
+
+    pub word_bad : hex_digit (get_or eight k 0) ≡ None → WordRead xs at None
+    word_bad e = no_word xs at (word_digit ∙ rw e)
+
+    pub word_next : (d : ℕ) → hex_digit (get_or eight k 0) ≡ Some d → d < 16 → WordTo xs at (k + 1) (v * 16 + d)
+    word_next d e s =
+        let p : 16 ^ (k + 1) ≡ 16 ^ k * 16 = ap (λ (n : ℕ). 16 ^ n) (add-one k) ∙ pow-suc 16 k in
+        record { some_left = omega arith; small = omega (arith, w.small); read = word_digit ∙ rw e }
 
 -- the next digit fits
 pub word_fits : (xs : List ℕ) (at k v : ℕ) → WordTo xs at k v → k < 8 → v * 16 + 15 < 2 ^ 32
@@ -114,12 +128,12 @@ word_fits xs at k v w h =
     let p : 16 ^ k ≤ 16 ^ 7 = pow-le-pow_right (omega arith) {i = k} {j = 7} (omega arith) in
     omega (arith, w.small)
 
-pub word_whole : (xs : List ℕ) (at k v : ℕ) → WordTo xs at k v → 8 ≤ k → WordRead xs at (Some v)
+pub word_whole : (xs : List ℕ) (at k v : ℕ) → WordTo xs at k v → 8 ≤ k → at + 8 ≤ length xs → WordRead xs at (Some v)
 unfolding digits
-word_whole xs at k v w h =
+word_whole xs at k v w h i =
     let e : k ≡ 8 = omega (arith, h, w.some_left) in
-    record { read = w.read ∙ ap (λ (n : ℕ). digits (8 - n) v (drop (at + n) xs)) e; inside = omega (arith, h, w.inside) }
+    record { read = w.read ∙ ap (λ (n : ℕ). digits (8 - n) v (drop (at + n) xs)) e; inside = i }
 
 -- ---- for the search
 
-pub ruleset word_laws = (word_past, word_begins, word_fits, word_whole)
+pub ruleset word_laws = (word_short, word_begins, eight_inside, word_bad, word_next, word_fits, word_whole)

@@ -13,6 +13,13 @@ abbrev pub ByteIs : List ℕ → ℕ → ℕ → Bool → Type 0
 ByteIs xs at b true = Stands xs at b
 ByteIs xs at b false = Stands xs at b → ⊥
 
+-- ---- `expect`: the promise
+
+-- the place after the byte b, if it stands there
+abbrev pub ByteRead : List ℕ → ℕ → ℕ → Option ℕ → Type 0
+ByteRead xs at b (Some next) = Stands xs at b × (next ≡ at + 1)
+ByteRead xs at b None = Stands xs at b → ⊥
+
 -- ---- `read_word`: the promise
 
 -- the value, if there is one, with what is left after it

@@ -95,3 +95,7 @@ number_at_end xs at i v t h =
           ∙ ended_taken (eqb i at) v i xs;
       inside = ended_inside xs at i v t.inside;
     }
+
+-- ---- for the search
+
+pub ruleset number_laws = (number_begins, number_next, number_large, number_stops, number_at_end)

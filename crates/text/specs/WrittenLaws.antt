@@ -36,3 +36,7 @@ written_then {out} {out'} {out''} {at} {next} {r} as' bs p q =
       count = q.count ∙ omega (arith, p.count, length-append as' bs);
       stored = q.stored ∙ ap (λ (n : ℕ). put out' n bs) p.count ∙ ap (λ (xs : List ℕ). put xs (at + length as') bs) p.stored ∙ sym (put_append out at as' bs);
     }
+
+-- what was written is what the row holds once it is lent no more
+pub written_kept : {out ended : List ℕ} {at r : ℕ} (bytes last : List ℕ) → last ≡ ended → Written out at bytes ended r → Written out at bytes last r
+written_kept bytes last e w = record { count = w.count; stored = e ∙ w.stored }

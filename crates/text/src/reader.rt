@@ -1,6 +1,6 @@
 // Words and numbers of a text, by their place. A place past the end is taken: nothing is read there.
 ghost use Rattle.std.specs.Prelude.{◌<◌};
-ghost use Rattle.text.specs.Answers.{ByteIs, HexDigitRead, WordRead, DigitRead, NextValue, NumberRead};
+ghost use Rattle.text.specs.Answers.{ByteIs, ByteRead, HexDigitRead, WordRead, DigitRead, NextValue, NumberRead};
 
 // Whether the byte stands there; past the end none does.
 pub fn byte_is(text: &[u8], at: usize, b: u8) -> bool
@@ -9,7 +9,15 @@ pub fn byte_is(text: &[u8], at: usize, b: u8) -> bool
     text.get(at) == Some(&b)
 }
 
+// The place after the byte, if it stands there.
+pub fn expect(text: &[u8], at: usize, b: u8) -> Option<usize>
+    ensures { ByteRead text.now at b result }
+{
+    byte_is(text, at, b).then(|| at + 1)
+}
+
 // The value of a hexadecimal digit of either case.
+#[tactic(auto, using(crate::proofs::WordLaws::hex_digit_read))]
 fn hex_digit(b: u8) -> Option<u32>
     ensures { HexDigitRead b result }
 {
@@ -21,19 +29,15 @@ fn hex_digit(b: u8) -> Option<u32>
 pub fn read_word(text: &[u8], at: usize) -> Option<u32>
     ensures { WordRead text.now at result }
 {
-    if at >= text.len() {
-        return None;
-    }
     let mut value = 0;
-    for k in 0..8 {
-        let b = *text.get(at + k)?;
-        value = value * 16 + hex_digit(b)?;
+    for b in text.get(at..)?.first_chunk::<8>()? {
+        value = value * 16 + hex_digit(*b)?;
     }
     Some(value)
 }
 
-// A number's value and the place after its last digit.
-#[derive(Clone, Copy)]
+// A number's value and the place after its last digit. No `Checked` of trace_lines: no range is known here, so that `fits` would be true of each.
+#[derive(Clone, Copy, PartialEq, Eq, Debug)]
 pub struct Number {
     pub value: u32,
     pub next: usize,
@@ -55,6 +59,7 @@ fn next_value(v: u32, d: u32) -> Option<u32>
 }
 
 // All digits from a place on, as far as they go.
+#[tactic(auto, using(crate::specs::NumberLaws::number_laws))]
 pub fn read_decimal(text: &[u8], at: usize) -> Option<Number>
     ensures { NumberRead text.now at result }
 {

@@ -1,30 +1,64 @@
-// Bytes and numbers written into a row from a place on. What is past the row's end is dropped. The result is the place after them.
-ghost use Rattle.std.specs.Prelude.{[], ◌∷◌, ◌+◌, ◌<◌, length};
+// Bytes and numbers written into a row from a place on. What is past the row's end is dropped.
+ghost use Rattle.std.specs.Prelude.{◌≡◌, [], ◌∷◌, ◌+◌, ◌<◌, length};
 ghost use Rattle.text.specs.Text.{decimal_text, last_place, Written};
 ghost use Rattle.text.specs.Spelled.{Spelled};
 
-pub fn write_byte(out: &mut [u8], at: usize, b: u8) -> usize
-    requires { at < last_place }
-    ensures { Written out.old at (b ∷ []) out.new result }
-{
-    if at < out.len() {
-        out[at] = b;
-    }
-    at + 1
+// A row, and the place after what is written. Each function keeps the row's ghost name (`lent`): by it a caller knows what the row holds once the writer is gone.
+#[derive(Debug, Drop)]
+pub struct Writer<'a> {
+    row: &'a mut [u8],
+    at: usize,
 }
 
-pub fn write_bytes(out: &mut [u8], at: usize, bytes: &[u8]) -> usize
-    requires { at + length bytes.now < last_place }
-    ensures { Written out.old at bytes.now out.new result }
-{
-    let mut next = at;
-    for b in bytes {
-        next = write_byte(out, next, *b);
+impl<'a> Writer<'a> {
+    pub fn new(row: &'a mut [u8], at: usize) -> Writer<'a>
+        ensures lent { result.row.ghost_name ≡ row.entry.ghost_name }
+        ensures row { result.row.now ≡ row.old }
+        ensures at { result.at ≡ at }
+    {
+        Writer { row, at }
     }
-    next
+
+    pub fn place(&self) -> usize
+        ensures { result ≡ self.now.at }
+    {
+        self.at
+    }
+
+    pub fn write_byte(&mut self, b: u8)
+        requires { self.old.at < last_place }
+        ensures lent { self.new.row.ghost_name ≡ self.old.row.ghost_name }
+        ensures written { Written self.old.row.now self.old.at (b ∷ []) self.new.row.now self.new.at }
+    {
+        if self.at < self.row.len() {
+            self.row[self.at] = b;
+        }
+        self.at += 1;
+    }
+
+    pub fn write_bytes(&mut self, bytes: &[u8])
+        requires { self.old.at + length bytes.now < last_place }
+        ensures lent { self.new.row.ghost_name ≡ self.old.row.ghost_name }
+        ensures written { Written self.old.row.now self.old.at bytes.now self.new.row.now self.new.at }
+    {
+        for b in bytes {
+            self.write_byte(*b);
+        }
+    }
+
+    #[tactic(auto, using(crate::specs::SpelledLaws::spelled_written))]
+    pub fn write_decimal(&mut self, n: u32)
+        requires { self.old.at + 10 < last_place }
+        ensures lent { self.new.row.ghost_name ≡ self.old.row.ghost_name }
+        ensures written { Written self.old.row.now self.old.at (decimal_text n) self.new.row.now self.new.at }
+    {
+        let mut digits = [0u8; 10];
+        let first = spell(n, &mut digits);
+        self.write_bytes(&digits[first..]);
+    }
 }
 
-// The digits of a number, last of all in a row of ten: the place of the first. Spelled by hand, since std prints into a formatter and no other crate is used.
+// The digits of a number, last of all in a row of ten: the place of the first. Spelled by hand: std's `Display` says which bytes it writes into a `fmt::Write` only where it answers `Ok`, and no clause says that it does.
 fn spell(n: u32, row: &mut [u8; 10]) -> usize
     ensures { Spelled n row.new result }
 {
@@ -37,13 +71,4 @@ fn spell(n: u32, row: &mut [u8; 10]) -> usize
     }
     row[i] = b'0' + rest as u8;
     i
-}
-
-pub fn write_decimal(out: &mut [u8], at: usize, n: u32) -> usize
-    requires { at + 10 < last_place }
-    ensures { Written out.old at (decimal_text n) out.new result }
-{
-    let mut row = [0u8; 10];
-    let first = spell(n, &mut row);
-    write_bytes(out, at, &row[first..])
 }

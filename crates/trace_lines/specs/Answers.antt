@@ -5,7 +5,6 @@ use Rattle.text.specs.Text.{Taken}
 use Rattle.trace_rules.specs.Fields.{Kind, kind_fits, read_kind, Fields, dash_read, shape}
 use Rattle.trace_lines.specs.Items.{letter_of}
 use Rattle.trace_lines.specs.declared.fields.Checked.{Checked}
-use Rattle.trace_lines.specs.declared.line.Extent.{Extent}
 use Rattle.trace_lines.specs.declared.line_kind.LineKind.{LineKind}
 
 -- ---- a dash after a tab
@@ -39,7 +38,7 @@ ValueReadAt reads width xs at (Some v) = ValueAt reads width xs at v
 ValueReadAt reads width xs at None = reads (drop at xs) ≡ None
 
 -- ---- items: their words stand at the front of the row
-pub record ExtentAt (reads : List ℕ → Option (Taken Fields)) (xs : List ℕ) (at : ℕ) (before after : List ℕ) (e : Extent) : Type 0 where
+pub record ExtentAt (reads : List ℕ → Option (Taken Fields)) (xs : List ℕ) (at : ℕ) (before after : List ℕ) (e : Checked (Unit {0})) : Type 0 where
   pub fields : Fields
   pub read : reads (drop at xs) ≡ Some (record { value = fields; rest = drop e.next xs })
   pub stored : after ≡ put before 0 fields.words
@@ -47,7 +46,7 @@ pub record ExtentAt (reads : List ℕ → Option (Taken Fields)) (xs : List ℕ)
   pub past : at ≤ e.next
   pub inside : e.next ≤ length xs
 
-abbrev pub ItemsReadAt : (List ℕ → Option (Taken Fields)) → List ℕ → ℕ → List ℕ → List ℕ → Option Extent → Type 0
+abbrev pub ItemsReadAt : (List ℕ → Option (Taken Fields)) → List ℕ → ℕ → List ℕ → List ℕ → Option (Checked (Unit {0})) → Type 0
 ItemsReadAt reads xs at before after (Some e) = ExtentAt reads xs at before after e
 ItemsReadAt reads xs at before after None = reads (drop at xs) ≡ None
 

@@ -1,9 +1,10 @@
 -- A field at a place of a text. Assumes nothing.
-use Rattle.std.specs.Prelude.{◌≡◌, refl, ℕ, ◌+◌, ◌≤◌, ◌<◌, Bool, true, false, List, length, drop, None, Some}
+use Rattle.std.specs.Prelude.{◌≡◌, refl, ℕ, ◌+◌, Bool, true, false, List, drop, None, Some}
 use Rattle.std.proofs.Common.{sym, ap, ◌∙◌, arith}
 use Rattle.text.specs.Text.{expect, word, decimal}
-use Rattle.text.specs.Answers.{Stands, ByteIs}
-use Rattle.text.specs.TextLaws.{expect_same, expect_not}
+use Rattle.text.specs.Answers.{Stands, ByteIs, ByteRead, WordRead, NumberRead}
+use Rattle.text.specs.declared.reader.Number as found
+use Rattle.text.specs.TextLaws.{expect_same, expect_read, expect_not}
 use Rattle.trace_rules.specs.Fields.{Kind, float, number, collider, body, mark, rule, kind_fits, read_kind, dash, dash_read}
 use Rattle.trace_lines.specs.declared.shapes.Kind as coded
 use Rattle.trace_lines.specs.declared.shapes.Kind.TheVariants.{Float, Number, Collider, Body, Mark, Rule}
@@ -43,24 +44,23 @@ module _ (k : Kind) (xs : List ℕ) (at : ℕ) where
       by_kind mark = expect_not 9 decimal xs at h
       by_kind rule = expect_not 9 decimal xs at h
 
-  module _ (stands : Stands xs at 9) where
-    pub no_float : k ≡ float → word (drop (at + 1) xs) ≡ None → read_kind k (drop at xs) ≡ None
+  module _ (start : ℕ) (tab : ByteRead xs at 9 (Some start)) where
+    pub no_float : k ≡ float → word (drop start xs) ≡ None → read_kind k (drop at xs) ≡ None
     unfolding read_kind
-    no_float e w = rw e (expect_same 9 word xs at stands.0 stands.1 ∙ w)
+    no_float e w = rw e (expect_read 9 word xs at start tab ∙ w)
 
-    pub float_read : (v : ℕ) → k ≡ float → word (drop (at + 1) xs) ≡ Some (record { value = v; rest = drop (at + 1 + 8) xs }) → at + 1 + 8 ≤ length xs
-        → FieldAt k xs at (record { value = v; next = at + 1 + 8; fits = true })
+    pub float_read : (v : ℕ) → k ≡ float → WordRead xs start (Some v) → FieldAt k xs at (record { value = v; next = start + 8; fits = true })
     unfolding read_kind kind_fits
-    float_read v e w l =
-        record { read = rw e (expect_same 9 word xs at stands.0 stands.1 ∙ w); fits = sym (ap (λ (k : Kind). kind_fits k v) e); past = omega arith; inside = l }
+    float_read v e w =
+        record { read = rw e (expect_read 9 word xs at start tab ∙ w.read); fits = sym (ap (λ (k : Kind). kind_fits k v) e); past = omega (arith, tab.1); inside = w.inside }
 
-    pub no_decimal : (k ≡ float → ⊥) → decimal (drop (at + 1) xs) ≡ None → read_kind k (drop at xs) ≡ None
-    no_decimal h w = kind_decimal k (drop at xs) h ∙ expect_same 9 decimal xs at stands.0 stands.1 ∙ w
+    pub no_decimal : (k ≡ float → ⊥) → decimal (drop start xs) ≡ None → read_kind k (drop at xs) ≡ None
+    no_decimal h w = kind_decimal k (drop at xs) h ∙ expect_read 9 decimal xs at start tab ∙ w
 
-    pub decimal_read : (v next : ℕ) (fits : Bool) → (k ≡ float → ⊥) → decimal (drop (at + 1) xs) ≡ Some (record { value = v; rest = drop next xs }) → at + 1 < next
-        → next ≤ length xs → fits ≡ kind_fits k v → FieldAt k xs at (record { value = v; next = next; fits = fits })
-    decimal_read v next fits h w p l f =
-        record { read = kind_decimal k (drop at xs) h ∙ expect_same 9 decimal xs at stands.0 stands.1 ∙ w; fits = f; past = omega arith; inside = l }
+    pub decimal_read : (n : found.Number) (fits : Bool) → (k ≡ float → ⊥) → NumberRead xs start (Some n) → fits ≡ kind_fits k n.value
+        → FieldAt k xs at (record { value = n.value; next = n.next; fits = fits })
+    decimal_read n fits h w f =
+        record { read = kind_decimal k (drop at xs) h ∙ expect_read 9 decimal xs at start tab ∙ w.read; fits = f; past = omega (arith, tab.1, w.inside.0); inside = w.inside.1 }
 
 -- ---- a dash
 
@@ -84,6 +84,6 @@ dash_tested xs at false s d = no_dash xs at s d
 
 -- ---- for the search, by function
 
-pub ruleset kind_laws = (no_tab, no_float, float_only, no_decimal)
+pub ruleset kind_laws = (no_tab, no_float, float_only, no_decimal, decimal_read)
 
 pub ruleset dash_laws = (no_dash_tab, dash_tested)

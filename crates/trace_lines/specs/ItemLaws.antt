@@ -87,3 +87,7 @@ module _ (xs : List ℕ) (at : ℕ) where
 pub ruleset plain_laws = (plain_none, plain_read)
 
 pub ruleset optional_laws = (dash_stands, one_none, one_read)
+
+pub ruleset coefficient_laws = (no_coefficient, first_none, second_none, both_read)
+
+pub ruleset setting_laws = (end_stands, setting_read)

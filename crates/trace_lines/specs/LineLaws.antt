@@ -1,7 +1,7 @@
 -- Items in turn, and a whole line. Assumes nothing.
 use Rattle.std.specs.Prelude.{◌≡◌, refl, ℕ, ◌+◌, ◌≤◌, ◌<◌, Bool, true, false, ◌&&◌, length, get_or, Option, None, Some}
 use Rattle.std.proofs.Math.Path.{sym, ap, ap₂}
-use Rattle.std.proofs.Common.{subst, ◌∙◌, zero-add, add-one, length-append, length-take, drop_of_length-le, drop-cons}
+use Rattle.std.proofs.Common.{subst, ◌∙◌, zero-add, add-one, length-append, drop_of_length-le, drop-cons}
 use native.Mathlib.Omega.{arith}
 use mathlib.Core.List.{List, [], ◌∷◌, ◌++◌, append_assoc, append-nil}
 use Rattle.std.specs.Prelude.{take}
@@ -9,8 +9,8 @@ use Rattle.std.proofs.Math.ListN.{drop}
 use Rattle.rows.specs.Rows.{put}
 use Rattle.rows.specs.Laws.{length_put, put_next}
 use Rattle.text.specs.Text.{Taken, after, expect, line_feed}
-use Rattle.text.specs.Answers.{Stands}
-use Rattle.text.specs.TextLaws.{expect_same, expect_not}
+use Rattle.text.specs.Answers.{Stands, ByteRead}
+use Rattle.text.specs.TextLaws.{expect_read, expect_not}
 use Rattle.trace_rules.specs.Fields.{Item, Fields, no_fields, joined, joined_taken, read_item, read_items, shape, read_line}
 use Rattle.trace_lines.specs.Items.{item_of, items_of, letter_of}
 use Rattle.trace_lines.specs.Widths.{item_width, items_width}
@@ -20,7 +20,6 @@ use Rattle.trace_lines.specs.ItemLaws.{and_true}
 use Rattle.trace_lines.specs.WidthLaws.{Sized, item_sized, shape_narrow}
 use Rattle.trace_lines.specs.declared.shapes.Item as coded
 use Rattle.trace_lines.specs.declared.fields.Checked.{Checked}
-use Rattle.trace_lines.specs.declared.line.Extent.{Extent}
 use Rattle.trace_lines.specs.declared.line_kind.LineKind.{LineKind}
 
 -- ---- fields one after another
@@ -112,8 +111,8 @@ module _ (items : List coded.Item) (xs : List ℕ) (at : ℕ) (row : List ℕ) w
       unfolding items_width
       widths_left = ap items_width left_next
 
-      pub item_room : (width : ℕ) (words : List ℕ) → width ≡ item_width (item_of item) → n + length (take width words) ≤ length row'
-      item_room width words e = omega (arith, e, length-take width words, w.room, widths_left, items_length)
+      pub item_room : n + item_width (item_of item) ≤ length row'
+      item_room = omega (arith, w.room, widths_left, items_length)
 
       pub items_next : (row'' : List ℕ) (v : Checked (List ℕ)) → ValueAt (read_item (item_of item)) (item_width (item_of item)) xs next v
           → row'' ≡ put row' n (take (item_width (item_of item)) v.value) → ItemsTo items xs at row row'' v.next (n + item_width (item_of item)) (fits && v.fits) (k + 1)
@@ -133,7 +132,7 @@ module _ (items : List coded.Item) (xs : List ℕ) (at : ℕ) (row : List ℕ) w
             inside = r.inside;
           }
 
-    pub items_end : length items ≤ k → ExtentAt (read_items (items_of items)) xs at row row' (record { next = next; fits = fits })
+    pub items_end : length items ≤ k → ExtentAt (read_items (items_of items)) xs at row row' (record { value = tt; next = next; fits = fits })
     unfolding read_items
     items_end h =
         record {
@@ -167,20 +166,22 @@ module _ (xs : List ℕ) (at letter : ℕ) (h : at < length xs) (is-letter : let
     pub no_items : read_items is (drop (at + 1) xs) ≡ None → read_line (drop at xs) ≡ None
     no_items e = line_at ∙ rw (shaped, e)
 
-    module _ (row row' : List ℕ) (x : Extent) (r : ExtentAt (read_items is) xs (at + 1) row row' x) where
+    module _ (row row' : List ℕ) (x : Checked (Unit {0})) (r : ExtentAt (read_items is) xs (at + 1) row row' x) where
       pub no_feed : (Stands xs x.next 10 → ⊥) → read_line (drop at xs) ≡ None
       no_feed f = line_at ∙ rw (shaped, r.read, expect_not 10 Some xs x.next f)
 
-      pub line_read : (kind : LineKind) → letter ≡ letter_of kind → Stands xs x.next 10 → LineIs xs at row row' (record { kind = kind; next = x.next + 1; fits = x.fits })
-      line_read kind k f =
+      pub line_read : (kind : LineKind) (next : ℕ) → letter ≡ letter_of kind → ByteRead xs x.next 10 (Some next) → LineIs xs at row row' (record { kind = kind; next = next; fits = x.fits })
+      line_read kind next k f =
           record {
             fields = r.fields.words;
-            read = line_at ∙ rw (shaped, r.read, expect_same 10 Some xs x.next f.0 f.1, ← r.fits, ← k);
+            read = line_at ∙ rw (shaped, r.read, expect_read 10 Some xs x.next next f, ← r.fits, ← k);
             stored = r.stored;
-            past = omega (arith, r.past);
-            inside = omega (arith, f.0);
+            past = omega (arith, r.past, f.1);
+            inside = omega (arith, f.0.0, f.1);
           }
 
 -- ---- for the search
 
-pub ruleset line_laws = (line_past, no_letter, no_items, shape_narrow)
+pub ruleset items_laws = (items_begin, items_length, items_stop, item_room, items_next, items_end)
+
+pub ruleset line_laws = (line_past, no_letter, no_items, no_feed, line_read, shape_narrow)

@@ -6,27 +6,42 @@ ghost use Rattle.trace_lines.specs.Answers.{FieldReadAt, DashReadAt};
 
 use crate::shapes::Kind;
 use layout::limits::{BODIES, COLLIDERS};
-use text::reader::{byte_is, read_decimal, read_word};
+use text::reader::{byte_is, expect, read_decimal, read_word};
 
 // What was read, the place after it, and whether all its numbers are in their ranges.
-#[derive(Clone, Copy)]
+#[derive(Clone, Copy, PartialEq, Eq, Debug)]
 pub struct Checked<T> {
     pub value: T,
     pub next: usize,
     pub fits: bool,
 }
 
-// Whether a value is in its kind's range.
-#[tactic(auto, unfolding(trace_rules::specs::Fields::kind_fits))]
-fn kind_fits(kind: Kind, v: u32) -> bool
-    ensures { result ≡ kind_fits (kind_of kind) v }
-{
-    match kind {
-        Kind::Float | Kind::Number => true,
-        Kind::Collider => v < COLLIDERS,
-        Kind::Body => v < BODIES,
-        Kind::Mark => v < 2,
-        Kind::Rule => 0 < v && v <= 5,
+impl<T: Copy> Checked<T> {
+    // Another value that is read to the same place.
+    pub fn with<U>(self, value: U) -> Checked<U>
+        ensures { (result.value ≡ value) × (result.next ≡ self.next) × (result.fits ≡ self.fits) }
+    {
+        Checked {
+            value,
+            next: self.next,
+            fits: self.fits,
+        }
+    }
+}
+
+impl Kind {
+    // Whether a value is in its range.
+    #[tactic(auto, unfolding(trace_rules::specs::Fields::kind_fits))]
+    fn fits(self, v: u32) -> bool
+        ensures { result ≡ kind_fits (kind_of self) v }
+    {
+        match self {
+            Kind::Float | Kind::Number => true,
+            Kind::Collider => v < COLLIDERS,
+            Kind::Body => v < BODIES,
+            Kind::Mark => v < 2,
+            Kind::Rule => 0 < v && v <= 5,
+        }
     }
 }
 
@@ -34,10 +49,7 @@ fn kind_fits(kind: Kind, v: u32) -> bool
 pub fn read_kind(text: &[u8], at: usize, kind: Kind) -> Option<Checked<u32>>
     ensures { FieldReadAt (kind_of kind) text.now at result }
 {
-    if !byte_is(text, at, b'\t') {
-        return None;
-    }
-    let start = at + 1;
+    let start = expect(text, at, b'\t')?;
     match kind {
         Kind::Float => {
             let value = read_word(text, start)?;
@@ -52,7 +64,7 @@ pub fn read_kind(text: &[u8], at: usize, kind: Kind) -> Option<Checked<u32>>
             Some(Checked {
                 value: number.value,
                 next: number.next,
-                fits: kind_fits(kind, number.value),
+                fits: kind.fits(number.value),
             })
         }
     }

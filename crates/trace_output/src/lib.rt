@@ -33,7 +33,7 @@ const GRAPH_LENGTH: usize = GRAPH_LIST + 2 * CAPACITY + CAPACITY * CONTACT_SIZE;
 const PRINTED_LENGTH: usize = CAPACITY * PRINTED_SIZE;
 
 // What the player is lent. A word of bits holds every contact.
-#[derive(Clone, Copy)]
+#[derive(Clone, Copy, PartialEq, Eq, Debug)]
 struct Lent {
     graph: [u32; GRAPH_LENGTH],
     settings: [u32; SETTINGS_LENGTH],

@@ -21,10 +21,8 @@ use Rattle.step.specs.Step.{Given, Rows, given_long, rows_long, lengths_fit, ste
 use Rattle.step.proofs.ReadLaws.{events_room, changes_room, events_read, changes_read}
 use Rattle.step.specs.declared.answer.StepReport.{StepReport}
 use Rattle.trace_rules.specs.Printed.{step_text, refused_text}
-use Rattle.trace_rules.specs.Fields.{Line}
-use Rattle.trace_rules.specs.Play.{Played, play_addition, proposals_of, shares_of, given_by}
+use Rattle.trace_rules.specs.Play.{Played, play_addition, given_by}
 use Rattle.trace_rules.specs.Records.{step_record}
-use Rattle.trace_steps.specs.Promises.{RowsFilled}
 use Rattle.contact_range.specs.Checked.{Checked}
 use Rattle.contact_range.specs.Range.{right_length, in_range}
 use Rattle.contact_range.specs.Recorded.{capacity_of}
@@ -108,11 +106,6 @@ module _ (xs : List ℕ) (p : Player) (g : List ℕ) (x : Given) (l : Rows) {out
 
 pub go_checked : (p : Player) (g : List ℕ) → (p.fits && in_range g) ≡ true → right_length g ≡ true → Checked g
 go_checked p g f r = checked r (second_true p.fits (in_range g) f)
-
--- ---- the rows that a go fills
-pub given_filled : (ls : List Line) (g : List ℕ) {settings colliders bodies proposals shares : List ℕ} → RowsFilled ls settings colliders bodies → proposals ≡ proposals_of (step_record ls).proposal g
-    → shares ≡ shares_of g → step.given settings colliders bodies proposals shares ≡ given_by (step_record ls) g
-given_filled ls g r p s = λ i. step.given (r.settings_are i) (r.colliders_are i) (r.bodies_are i) (p i) (s i)
 
 -- ---- a step
 abbrev IsDone : step.Answer → Type 0

@@ -3,18 +3,18 @@ ghost use Rattle.std.specs.Prelude.{◌≡◌, true};
 ghost use Rattle.contact_range.specs.Checked.{Checked};
 ghost use Rattle.contact_range.specs.Recorded.{capacity_of};
 ghost use Rattle.step.specs.Step.{given, given_long};
-ghost use Rattle.trace_rules.specs.Places.{lines_between};
 ghost use Rattle.trace_rules.specs.Play.{given_by};
 ghost use Rattle.trace_rules.specs.Records.{step_record};
+ghost use Rattle.trace_steps.specs.Stretch.{lines_of};
 
 use trace_steps::active::fill_proposals;
 use trace_steps::records::fill_rows;
+use trace_steps::stretch::Stretch;
 use trace_steps::worker::fill_shares;
 
+#[tactic(auto, using(step::specs::AcceptedLaws::given_words))]
 pub fn fill_given(
-    trace: &[u8],
-    start: usize,
-    stop: usize,
+    stretch: Stretch<'_>,
     graph: &[u32],
     settings: &mut [u32],
     colliders: &mut [u32],
@@ -23,9 +23,9 @@ pub fn fill_given(
     shares: &mut [u32],
 )
     requires { Checked graph.now × (given_long (given settings.old colliders.old bodies.old proposals.old shares.old) (capacity_of graph.now) ≡ true) }
-    ensures { given settings.new colliders.new bodies.new proposals.new shares.new ≡ given_by (step_record (lines_between trace.now start stop)) graph.now }
+    ensures { given settings.new colliders.new bodies.new proposals.new shares.new ≡ given_by (step_record (lines_of stretch.entry)) graph.now }
 {
-    fill_rows(trace, start, stop, settings, colliders, bodies);
-    fill_proposals(trace, start, stop, graph, proposals);
+    fill_rows(stretch, settings, colliders, bodies);
+    fill_proposals(stretch, graph, proposals);
     fill_shares(graph, shares);
 }

@@ -14,6 +14,7 @@ use step::input::StepInput;
 use step::step::step;
 use trace_printing::cells::write_refused;
 use trace_printing::lines::write_step;
+use trace_steps::stretch::Stretch;
 
 // What a step answered, printed from its rows.
 fn print_answer(
@@ -58,10 +59,7 @@ fn go_fits(fits: bool, graph: &[u32]) -> bool
     requires { right_length graph.now ≡ true }
     ensures { result ≡ (fits && in_range graph.now) }
 {
-    if fits {
-        return in_range(graph);
-    }
-    false
+    fits && in_range(graph)
 }
 
 // The rows are filled by the lines since the last go, where their numbers and the graph are in range.
@@ -84,18 +82,15 @@ pub fn play_go(
     ensures { Made (go_effect trace.now player graph.old (given settings.old colliders.old bodies.old proposals.old shares.old) (rows bits.old events.old changes.old distances.old)) out.old (lent graph.new (given settings.new colliders.new bodies.new proposals.new shares.new) (rows bits.new events.new changes.new distances.new) out.new) result }
 {
     if !go_fits(player.fits, graph) {
-        return write_refused(out, 0, 2);
+        return write_refused(out, 0, Refusal::OutOfRange.number());
     }
+    let stretch = Stretch {
+        text: trace,
+        start: player.stretch,
+        stop: player.place,
+    };
     fill_given(
-        trace,
-        player.stretch,
-        player.place,
-        graph,
-        settings,
-        colliders,
-        bodies,
-        proposals,
-        shares,
+        stretch, graph, settings, colliders, bodies, proposals, shares,
     );
     let input = StepInput {
         settings,

@@ -17,7 +17,7 @@ use trace_printing::lines::PRINTED_SIZE;
 use words::load::load;
 
 // The player for the next line, and how many bytes the line printed, from the start of the row for them.
-#[derive(Clone, Copy)]
+#[derive(Clone, Copy, PartialEq, Eq, Debug)]
 pub struct PlayedLine {
     pub player: Player,
     pub written: usize,
@@ -27,6 +27,7 @@ pub struct PlayedLine {
 const UNREADABLE: u32 = 10;
 
 // Every length is the one for the graph.
+#[tactic(auto, unfolding(crate::specs::Played::lent_fits))]
 fn lent_fit(
     graph: &[u32],
     settings: &[u32],
@@ -49,10 +50,8 @@ fn lent_fit(
         proposals,
         shares,
     };
-    if !lengths_fit(&input, graph, bits, events, changes, distances) {
-        return false;
-    }
-    out.len() == load::<usize>(graph, GRAPH_CAPACITY) * PRINTED_SIZE
+    lengths_fit(&input, graph, bits, events, changes, distances)
+        && out.len() == load::<usize>(graph, GRAPH_CAPACITY) * PRINTED_SIZE
 }
 
 // The line at the player's place is played.
@@ -82,34 +81,21 @@ fn play_asked(
             written,
         };
     };
-    let next = line.player;
-    match line.kind {
-        LineKind::Go => {
-            let written = play_go(
-                trace, player, graph, settings, colliders, bodies, proposals, shares, bits, events,
-                changes, distances, out,
-            );
-            PlayedLine {
-                player: next,
-                written,
-            }
-        }
-        LineKind::Addition => {
-            let request = request_words(words);
-            let written = play_addition(graph, &request, out);
-            PlayedLine {
-                player: next,
-                written,
-            }
-        }
-        _ => PlayedLine {
-            player: next,
-            written: 0,
-        },
+    let written = match line.kind {
+        LineKind::Go => play_go(
+            trace, player, graph, settings, colliders, bodies, proposals, shares, bits, events,
+            changes, distances, out,
+        ),
+        LineKind::Addition => play_addition(graph, &request_words(words), out),
+        _ => 0,
+    };
+    PlayedLine {
+        player: line.player,
+        written,
     }
 }
 
-// The rows stand apart in each call: a `&mut` in a struct hides from the caller what is written through it.
+// The rows are passed on one by one, and each contract tells them apart by their names: a struct of `&mut` rows would be taken apart again where they are filled and where the step is made.
 pub fn play_line(
     trace: &[u8],
     player: Player,

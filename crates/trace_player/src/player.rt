@@ -8,7 +8,7 @@ use trace_lines::line_kind::LineKind;
 
 // The place of the next line; where the lines since the last go begin; whether the line above is a manifold or a point; whether settings
 // stand among those lines; whether all their numbers are in range, those of additions apart.
-#[derive(Clone, Copy)]
+#[derive(Clone, Copy, PartialEq, Eq, Debug)]
 pub struct Player {
     pub place: usize,
     pub stretch: usize,
@@ -18,14 +18,14 @@ pub struct Player {
 }
 
 // A line's kind, and the player after it.
-#[derive(Clone, Copy)]
+#[derive(Clone, Copy, PartialEq, Eq, Debug)]
 pub struct AskedLine {
     pub kind: LineKind,
     pub player: Player,
 }
 
 // What the next line may be.
-#[derive(Clone, Copy)]
+#[derive(Clone, Copy, PartialEq, Eq, Debug)]
 pub struct Next {
     pub after_point: bool,
     pub settings: bool,
@@ -44,33 +44,34 @@ impl Player {
             fits: true,
         }
     }
-}
 
-#[tactic(auto, unfolding(trace_rules::specs::Reading::follow))]
-fn follow(after_point: bool, settings: bool, kind: LineKind) -> Option<Next>
-    ensures { FollowedBy after_point settings (letter_of kind) result }
-{
-    match kind {
-        LineKind::Point => after_point.then_some(Next {
-            after_point: true,
-            settings,
-        }),
-        LineKind::Go => settings.then_some(Next {
-            after_point: false,
-            settings: false,
-        }),
-        LineKind::Settings => Some(Next {
-            after_point: false,
-            settings: true,
-        }),
-        LineKind::Manifold => Some(Next {
-            after_point: true,
-            settings,
-        }),
-        _ => Some(Next {
-            after_point: false,
-            settings,
-        }),
+    #[tactic(auto, unfolding(trace_rules::specs::Reading::follow))]
+    fn follow(self, kind: LineKind) -> Option<Next>
+        ensures { FollowedBy self.after_point self.settings (letter_of kind) result }
+    {
+        let settings = self.settings;
+        match kind {
+            LineKind::Point => self.after_point.then_some(Next {
+                after_point: true,
+                settings,
+            }),
+            LineKind::Go => settings.then_some(Next {
+                after_point: false,
+                settings: false,
+            }),
+            LineKind::Settings => Some(Next {
+                after_point: false,
+                settings: true,
+            }),
+            LineKind::Manifold => Some(Next {
+                after_point: true,
+                settings,
+            }),
+            _ => Some(Next {
+                after_point: false,
+                settings,
+            }),
+        }
     }
 }
 
@@ -78,7 +79,7 @@ pub fn next_line(trace: &[u8], player: Player, words: &mut [u32; LINE_WORDS]) ->
     ensures { AskedAt trace.now player words.old words.new result }
 {
     let line = read_line(trace, player.place, words)?;
-    let next = follow(player.after_point, player.settings, line.kind)?;
+    let next = player.follow(line.kind)?;
     let kind = line.kind;
     if kind == LineKind::Go {
         return Some(AskedLine {

@@ -16,6 +16,8 @@ use Rattle.layout.specs.Change.{change_body1, change_body2, change_contact, chan
 use Rattle.contact_records.specs.Recorded.{int_of}
 use Rattle.contact_graph.specs.Calls.{optional}
 use Rattle.step.specs.Read.{names_at, event_at, change_at}
+use Rattle.status_pass.specs.Listed.{event_number}
+use Rattle.status_pass.specs.declared.events.EventKind.{EventKind}
 use Rattle.text.specs.Text.{Written, line_feed}
 use Rattle.text.specs.WrittenLaws.{written_then}
 use Rattle.trace_rules.specs.Printed.{Cell, number, cell_text, cells_text, printed_line, optional_cell, event_letter, event_cells, event_text, change_letter, change_text, change_cells}
@@ -186,11 +188,11 @@ module _ {out out' : List ℕ} {at letter next : ℕ} (cs : List Cell) where
       (written_then (letter ∷ each cell_text (take k cs)) (line_feed ∷ []) w v)
 
 -- an event's line, from its cells
-pub event_printed : (row : List ℕ) (at : ℕ) {kind contact collider1 collider2 : ℕ} {x y : Cell}
-    → kind ≡ cond (eqb (word_at row at) 0) 0 1 → contact ≡ (names_at row at).id → collider1 ≡ (names_at row at).collider1 → collider2 ≡ (names_at row at).collider2
+pub event_printed : (row : List ℕ) (at : ℕ) (k : EventKind) {kind contact collider1 collider2 : ℕ} {x y : Cell}
+    → kind ≡ event_number k → event_number k ≡ cond (eqb (word_at row at) 0) 0 1 → contact ≡ (names_at row at).id → collider1 ≡ (names_at row at).collider1 → collider2 ≡ (names_at row at).collider2
     → x ≡ optional_cell (names_at row at).body1 → y ≡ optional_cell (names_at row at).body2
     → printed_line event_letter (number kind ∷ number contact ∷ number collider1 ∷ number collider2 ∷ x ∷ y ∷ []) ≡ event_text (event_at row at)
-event_printed row at ek ec e1 e2 ex ey = rw (ek, ec, e1, e2, ex, ey) (sym (event_line row at))
+event_printed row at k et ek ec e1 e2 ex ey = rw (et ∙ ek, ec, e1, e2, ex, ey) (sym (event_line row at))
 
 -- a change's line, from its cells
 pub change_printed : {cs : List Cell} (c : Change) → cs ≡ change_cells c → printed_line change_letter cs ≡ change_text c

@@ -1,10 +1,12 @@
 -- Events and changes as they stand in their rows, and how long their lines are at most. Definitions only.
-use Rattle.std.specs.Prelude.{ℕ, ◌+◌, ◌*◌, List, map}
+use Rattle.std.specs.Prelude.{ℕ, ◌+◌, ◌*◌, ◌≡◌, List, map}
 use Rattle.rows.specs.Slots.{upto}
 use Rattle.rules.specs.Status.{Event, Change}
 use Rattle.layout.specs.Change.{change_size}
 use Rattle.layout.specs.Event.{event_size}
 use Rattle.step.specs.Read.{event_at, change_at}
+use Rattle.status_pass.specs.declared.changes.ContactStatusChange.{ContactStatusChange}
+use Rattle.status_pass.specs.declared.changes.ContactStatusChange.TheVariants as change
 
 -- the first n of a row
 abbrev pub events_in : List ℕ → ℕ → List Event
@@ -12,6 +14,12 @@ events_in row n = map (λ k. event_at row (k * event_size)) (upto n)
 
 abbrev pub changes_in : List ℕ → ℕ → List Change
 changes_in row n = map (λ k. change_at row (k * change_size)) (upto n)
+
+-- the number of a change's kind, as `change_at` reads it
+abbrev pub ChangeNumbered : ℕ → ContactStatusChange → Type 0
+ChangeNumbered w change.StartedGeneratingConstraints = w ≡ 0
+ChangeNumbered w change.StoppedGeneratingConstraints = w ≡ 1
+ChangeNumbered w change.ManifoldCountChanged = (w ≡ 0 → ⊥) × (w ≡ 1 → ⊥)
 
 -- a tab, a sign and ten digits
 abbrev pub cell_room : ℕ

@@ -3,6 +3,7 @@ pub mod EndLaws
 pub mod PlaceLaws
 pub mod ReadingLaws
 pub mod Lines
+pub mod Stretch
 pub mod Promises
 pub mod ProposalLaws
 pub mod LineLaws

@@ -1,12 +1,12 @@
 -- What one line does to the rows of a step, word by word: the line's words stand at the front of ws. Definitions only.
-use Rattle.std.specs.Prelude.{ℕ, ◌+◌, ◌-◌, ◌*◌, ◌≡◌, Bool, cond, List, [], ◌∷◌, eqb, ltb, leb, length}
+use Rattle.std.specs.Prelude.{ℕ, ◌+◌, ◌-◌, ◌*◌, ◌≡◌, Bool, cond, List, [], ◌∷◌, Option, None, Some, eqb, ltb, leb, length}
 use Rattle.rows.specs.Rows.{part, put}
 use Rattle.rules.specs.Limits.{pair_manifolds, proposed_points}
 use Rattle.rules.specs.Limits as limits
 use Rattle.layout.specs.Body.{body_size}
 use Rattle.layout.specs.Collider.{collider_size}
 use Rattle.words.specs.Words.{word_at}
-use Rattle.layout.specs.Proposal.{proposal_hook, proposal_count, proposal_manifolds, proposed_manifold_size, proposed_manifold_points, proposed_point_size}
+use Rattle.layout.specs.Proposal.{proposal_hook, proposal_count, proposal_manifolds, proposed_manifold_size, proposed_manifold_normal, proposed_manifold_points, proposed_point_size}
 use Rattle.layout.specs.Settings.{settings_length}
 use Rattle.contact_range.specs.Range.{same_colliders}
 use Rattle.trace_lines.specs.Widths.{width_of}
@@ -43,20 +43,30 @@ raised limit n = cond (leb n limit) (n + 1) n
 abbrev pub of_pair_at : ℕ → ℕ → List ℕ → Bool
 of_pair_at a b ws = same_colliders a b (word_at ws 0) (word_at ws 1)
 
+-- behind its two colliders a line has the hook's answer, or the normal
+abbrev pub line_answer : ℕ
+line_answer = 2
+
+abbrev pub line_normal : ℕ
+line_normal = 2
+
+abbrev pub normal_size : ℕ
+normal_size = proposed_manifold_points - proposed_manifold_normal
+
 abbrev pub manifold_place : ℕ → ℕ
 manifold_place k = proposal_manifolds + k * proposed_manifold_size
 
--- manifold n, without points: the count, and its words where there is room. The normal stands behind two colliders
+-- manifold n, without points: the count, and its words where there is room
 unfoldable pub manifold_stored : ℕ → List ℕ → List ℕ → List ℕ
 manifold_stored n ws row =
     let counted = put row proposal_count (raised pair_manifolds n ∷ []) in
-    cond (ltb n pair_manifolds) (put counted (manifold_place n) (0 ∷ part ws 2 3)) counted
+    cond (ltb n pair_manifolds) (put counted (manifold_place n) (0 ∷ part ws line_normal normal_size)) counted
 
--- a point of the manifold with that number from 1 on, which has so many points: the count, and its words where there is room
+-- a point of manifold n, which has so many points: the count, and its words where there is room
 unfoldable pub point_stored : ℕ → ℕ → List ℕ → List ℕ → List ℕ
-point_stored last points ws row =
-    let counted = put row (manifold_place (last - 1)) (raised proposed_points points ∷ []) in
-    cond (leb last pair_manifolds) (cond (ltb points proposed_points) (put counted (manifold_place (last - 1) + proposed_manifold_points + points * proposed_point_size) (part ws 0 proposed_point_size)) counted) row
+point_stored n points ws row =
+    let counted = put row (manifold_place n) (raised proposed_points points ∷ []) in
+    cond (ltb n pair_manifolds) (cond (ltb points proposed_points) (put counted (manifold_place n + proposed_manifold_points + points * proposed_point_size) (part ws 0 proposed_point_size)) counted) row
 
 -- the row and the counts beside it
 pub record Progress : Type 0 where
@@ -67,24 +77,28 @@ abbrev pub progress : List ℕ → Counts → Progress
 progress row counts = record { row = row; counts = counts }
 
 unfoldable pub hook_taken : ℕ → ℕ → List ℕ → List ℕ → List ℕ
-hook_taken a b ws row = cond (of_pair_at a b ws) (put row proposal_hook (word_at ws 2 ∷ [])) row
+hook_taken a b ws row = cond (of_pair_at a b ws) (put row proposal_hook (word_at ws line_answer ∷ [])) row
 
 unfoldable pub manifold_taken : ℕ → ℕ → List ℕ → Progress → Progress
 manifold_taken a b ws p =
     cond (of_pair_at a b ws)
     (record {
       row = manifold_stored p.counts.manifolds ws p.row;
-      counts = record { manifolds = raised pair_manifolds p.counts.manifolds; last = raised pair_manifolds p.counts.manifolds; points = 0 };
+      counts = record { manifolds = raised pair_manifolds p.counts.manifolds; last = Some p.counts.manifolds; points = 0 };
     })
-    (record { row = p.row; counts = record { manifolds = p.counts.manifolds; last = 0; points = 0 } })
+    (record { row = p.row; counts = record { manifolds = p.counts.manifolds; last = None; points = 0 } })
+
+-- a point joins the last manifold, where there is one
+abbrev pub point_joined : Option ℕ → List ℕ → Progress → Progress
+point_joined None ws p = p
+point_joined (Some n) ws p =
+    record {
+      row = point_stored n p.counts.points ws p.row;
+      counts = record { manifolds = p.counts.manifolds; last = Some n; points = raised proposed_points p.counts.points };
+    }
 
 unfoldable pub point_taken : List ℕ → Progress → Progress
-point_taken ws p =
-    cond (eqb p.counts.last 0) p
-    (record {
-      row = point_stored p.counts.last p.counts.points ws p.row;
-      counts = record { manifolds = p.counts.manifolds; last = p.counts.last; points = raised proposed_points p.counts.points };
-    })
+point_taken ws p = point_joined p.counts.last ws p
 
 unfoldable pub line_taken : ℕ → ℕ → ℕ → List ℕ → Progress → Progress
 line_taken a b letter ws p =

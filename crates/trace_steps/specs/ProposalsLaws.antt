@@ -4,11 +4,9 @@ use Rattle.std.proofs.Common.{add-one, sym, ◌∙◌, take-suc, take_all}
 use Rattle.std.proofs.Math.Path.{refl, ap}
 use mathlib.Core.List.{List, [], ◌∷◌, ◌++◌}
 use Rattle.rows.specs.Rows.{put}
-use Rattle.words.specs.Words.{word_at}
-use Rattle.layout.specs.Contact.{contact_collider2}
 use Rattle.layout.specs.Proposal.{proposal_size}
 use Rattle.manifold_records.specs.Written.{zeros}
-use Rattle.contact_range.specs.Recorded.{capacity_of, contact_at, listed_at, listed_count}
+use Rattle.contact_range.specs.Recorded.{capacity_of, listed_at, listed_count}
 use Rattle.update_pass.specs.Shared.{active_of}
 use Rattle.trace_rules.specs.Play.{proposal_words, proposal_of, with_proposals, proposals_of}
 use Rattle.trace_rules.specs.Records.{Proposal}
@@ -40,10 +38,3 @@ module _ (f : ℕ → ℕ → Proposal) (g : List ℕ) where
   pub proposals_done : (p : ℕ) {row : List ℕ} → listed_count g ≤ p → Filled p row → row ≡ proposals_of f g
   unfolding proposals_of
   proposals_done p h e = e ∙ ap (with_proposals f g (zeros (capacity_of g * proposal_size))) (take_all p (active_of g) (rw (active_length g) h))
-
-  -- the proposal of a listed contact, by the words of its record
-  pub proposal_listed : (row : List ℕ) (p : ℕ) {id at a b : ℕ} {zs : List ℕ} → id ≡ listed_at g p → at ≡ contact_at g id → a ≡ word_at g at → b ≡ word_at g (at + contact_collider2)
-      → zs ≡ put row (id * proposal_size) (proposal_words (f a b)) → zs ≡ put row (listed_at g p * proposal_size) (proposal_words (proposal_of f g (listed_at g p)))
-  proposal_listed row p {id} {at} {a} {b} e l u v z =
-      let place : at ≡ contact_at g (listed_at g p) = l ∙ ap (contact_at g) e in
-      z ∙ (λ i. put row (e i * proposal_size) (proposal_words (f ((u ∙ ap (word_at g) place) i) ((v ∙ ap (λ (n : ℕ). word_at g (n + contact_collider2)) place) i))))

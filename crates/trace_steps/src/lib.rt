@@ -5,4 +5,5 @@ pub mod active;
 pub mod proposal;
 pub mod records;
 mod row;
+pub mod stretch;
 pub mod worker;

@@ -5,21 +5,23 @@ ghost use Rattle.layout.specs.Collider.{colliders_length};
 ghost use Rattle.layout.specs.Settings.{settings_length};
 ghost use Rattle.manifold_records.specs.Written.{zeros};
 ghost use Rattle.trace_lines.specs.Items.{letter_of};
-ghost use Rattle.trace_rules.specs.Places.{lines_between};
 ghost use Rattle.trace_steps.specs.Lines.{record_stored, RowsTaken};
 ghost use Rattle.trace_steps.specs.Promises.{RowsFilled};
+ghost use Rattle.trace_steps.specs.Stretch.{lines_of};
 
 use crate::row::store_part;
+use crate::stretch::Stretch;
 use contact_graph::lay_out::clear;
 use layout::body::BODY_SIZE;
 use layout::collider::COLLIDER_SIZE;
 use layout::limits::{BODIES, COLLIDERS};
 use layout::settings::SETTINGS_LENGTH;
-use trace_lines::line::{LINE_WORDS, read_line};
+use trace_lines::line::LINE_WORDS;
 use trace_lines::line_kind::LineKind;
 use words::load::load;
 
 // The record that the line's first word numbers, where there is one: a presence mark and the line's other words.
+#[tactic(auto, using(crate::specs::CodeLaws::record_none, crate::specs::CodeLaws::record_stored_lem))]
 fn store_record(words: &[u32], row: &mut [u32], count: usize, size: usize)
     requires { (length row.old ≡ count * size) × (0 < size) × (size ≤ length words.now) }
     ensures { row.new ≡ record_stored count size words.now row.old }
@@ -53,43 +55,29 @@ fn take_line(
     }
 }
 
-// The lines that begin at `start` or after it and before `stop`, into cleared rows.
-fn read_rows(
-    text: &[u8],
-    start: usize,
-    stop: usize,
-    settings: &mut [u32],
-    colliders: &mut [u32],
-    bodies: &mut [u32],
-)
+// The lines of a stretch, into cleared rows.
+fn read_rows(stretch: Stretch<'_>, settings: &mut [u32], colliders: &mut [u32], bodies: &mut [u32])
     requires { (settings.old ≡ zeros settings_length) × (colliders.old ≡ zeros colliders_length) × (bodies.old ≡ zeros bodies_length) }
-    ensures { RowsFilled (lines_between text.now start stop) settings.new colliders.new bodies.new }
+    ensures { RowsFilled (lines_of stretch.entry) settings.new colliders.new bodies.new }
 {
-    let mut words = [0u32; LINE_WORDS];
-    let mut at = start;
-    while at < stop {
-        let Some(line) = read_line(text, at, &mut words) else {
-            return;
-        };
-        take_line(line.kind, &words, settings, colliders, bodies);
-        at = line.next;
+    let mut lines = stretch.lines();
+    while let Some(kind) = lines.next() {
+        take_line(kind, &lines.words, settings, colliders, bodies);
     }
 }
 
 // Every word of the rows: zeros for what no line gives.
 pub fn fill_rows(
-    text: &[u8],
-    start: usize,
-    stop: usize,
+    stretch: Stretch<'_>,
     settings: &mut [u32],
     colliders: &mut [u32],
     bodies: &mut [u32],
 )
     requires { (length settings.old ≡ settings_length) × (length colliders.old ≡ colliders_length) × (length bodies.old ≡ bodies_length) }
-    ensures { RowsFilled (lines_between text.now start stop) settings.new colliders.new bodies.new }
+    ensures { RowsFilled (lines_of stretch.entry) settings.new colliders.new bodies.new }
 {
     clear(settings);
     clear(colliders);
     clear(bodies);
-    read_rows(text, start, stop, settings, colliders, bodies);
+    read_rows(stretch, settings, colliders, bodies);
 }

@@ -14,6 +14,7 @@ use layout::shares::{SHARES_COUNTS, SHARES_ENTRIES, SHARES_WORKERS};
 use words::load::load;
 
 // The worker's contacts.
+#[tactic(auto, using(crate::specs::ActiveLaws::list_places, crate::specs::ActiveLaws::active_part))]
 fn list_active(graph: &[u32], shares: &mut [u32])
     requires { Checked graph.now × (length shares.old ≡ shares_length (capacity_of graph.now)) }
     ensures { shares.new ≡ put shares.old shares_entries (active_of graph.now) }
@@ -23,6 +24,7 @@ fn list_active(graph: &[u32], shares: &mut [u32])
 }
 
 // Every word of the row.
+#[tactic(auto, using(crate::specs::ActiveLaws::shares_filled))]
 pub fn fill_shares(graph: &[u32], shares: &mut [u32])
     requires { Checked graph.now × (length shares.old ≡ shares_length (capacity_of graph.now)) }
     ensures { shares.new ≡ shares_of graph.now }

@@ -23,7 +23,7 @@ pub fn update_share(
     ensures { ShareTaken (plain_settings input.now.settings) input.now.colliders.now input.now.bodies.now input.now.proposals.now shares.now worker graph.old bits.old distances.old graph.new bits.new distances.new result }
 {
     let from = SHARES_ENTRIES + start_of(shares, worker);
-    let count = load::<u32>(shares, SHARES_COUNTS + worker) as usize;
+    let count = load::<usize>(shares, SHARES_COUNTS + worker);
     let mut recycled = 0;
     for k in 0..count {
         let id = id_at(shares, from + k);

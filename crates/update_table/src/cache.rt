@@ -1,17 +1,19 @@
 // A case's cache: of the two bodies as they are, or a little moved.
+ghost use Rattle.std.specs.Prelude.{◌<◌};
+
 use crate::record::swapped;
 use case_draws::bodies::rotation;
 use case_draws::draws::{Floats, draw, float, pick, slot};
 use case_draws::numbers::{
-    BODY_POSITION, BODY_PRESENT, BODY_ROTATION, BODY_SIZE, CACHE_RELATIVE_ROTATION,
-    CACHE_RELATIVE_TRANSLATION, CACHE_ROTATION1, CACHE_ROTATION2, CACHED_SIZE, COLLIDER_BODY,
-    COLLIDER_SIZE, CONTACT_CACHED,
+    CACHE_RELATIVE_ROTATION, CACHE_RELATIVE_TRANSLATION, CACHE_ROTATION1, CACHE_ROTATION2,
+    CACHED_SIZE, CONTACT_CACHED,
 };
 use case_draws::places::{fill, word};
+use layout::body::{BODIES_LENGTH, BODY_POSITION, BODY_PRESENT, BODY_SIZE};
+use layout::collider::{COLLIDER_BODY, COLLIDER_SIZE, COLLIDERS_LENGTH};
 use math::bits::{bits_of, float_of};
 use math::pose::Pose;
-use math::quat::Quat;
-use math::vec::Vec3;
+use words::load::load;
 
 // 0.001, -0.002, 0.004, 0.01, 0.04, 0.1, 0.5, NaN.
 const NUDGES: [u32; 8] = [
@@ -37,46 +39,16 @@ const TURNS: [u32; 8] = [
     0x3f00_0000,
 ];
 
-// The i-th word of collider n.
-fn collider_place(n: u32, i: u32) -> u32 {
-    COLLIDER_SIZE.wrapping_mul(n).wrapping_add(i)
-}
-
-// The i-th word of body n.
-fn body_place(n: u32, i: u32) -> u32 {
-    BODY_SIZE.wrapping_mul(n).wrapping_add(i)
-}
-
-// The j-th float from a place of body n on.
-fn part(bodies: &[u32], n: u32, from: u32, j: u32) -> f32 {
-    float_of(word(bodies, body_place(n, slot(from, j))))
-}
-
-fn body_pose(bodies: &[u32], n: u32) -> Pose {
-    Pose {
-        position: Vec3 {
-            x: part(bodies, n, BODY_POSITION, 0),
-            y: part(bodies, n, BODY_POSITION, 1),
-            z: part(bodies, n, BODY_POSITION, 2),
-        },
-        rotation: Quat {
-            x: part(bodies, n, BODY_ROTATION, 0),
-            y: part(bodies, n, BODY_ROTATION, 1),
-            z: part(bodies, n, BODY_ROTATION, 2),
-            w: part(bodies, n, BODY_ROTATION, 3),
-        },
-    }
-}
-
 // That of collider n's own body; an absent one is at the origin.
-fn pose(colliders: &[u32], bodies: &[u32], n: u32) -> Pose {
-    if word(colliders, collider_place(n, COLLIDER_BODY)) == 0 {
+fn pose(colliders: &[u32; COLLIDERS_LENGTH], bodies: &[u32; BODIES_LENGTH], n: usize) -> Pose
+    requires { n < 2 }
+{
+    let collider = n * COLLIDER_SIZE;
+    let body = n * BODY_SIZE;
+    if colliders[collider + COLLIDER_BODY] == 0 || bodies[body + BODY_PRESENT] == 0 {
         return Pose::IDENTITY;
     }
-    if word(bodies, body_place(n, BODY_PRESENT)) == 0 {
-        return Pose::IDENTITY;
-    }
-    body_pose(bodies, n)
+    load::<Pose>(bodies, body + BODY_POSITION)
 }
 
 // The cache behind its mark: its words, where the second rotation, the translation and the rotation between them begin.
@@ -113,22 +85,15 @@ fn cache_of(a: Pose, b: Pose) -> [u32; LENGTH] {
     ]
 }
 
-fn translation_nudge(d: u32) -> u32 {
-    if d % 4 == 0 { pick(&NUDGES, d / 4) } else { 0 }
-}
-
-fn rotation_nudge(d: u32) -> u32 {
-    if d % 6 == 0 { pick(&TURNS, d / 6) } else { 0 }
-}
-
 // One in four parts of the translation is moved, and one in six of the rotation.
 fn nudge(owner: u32, j: u32) -> u32 {
     let d = draw(owner, slot(80, j));
-    if j < RELATIVE_ROTATION {
-        translation_nudge(d)
+    let (n, nudges) = if j < RELATIVE_ROTATION {
+        (4, NUDGES)
     } else {
-        rotation_nudge(d)
-    }
+        (6, TURNS)
+    };
+    if d % n == 0 { pick(&nudges, d / n) } else { 0 }
 }
 
 fn moved(owner: u32, j: u32, w: u32) -> u32 {
@@ -156,16 +121,19 @@ fn cache_word(case: u32, j: u32, w: u32) -> u32 {
     }
 }
 
-fn drawn_cache(colliders: &[u32], bodies: &[u32], case: u32) -> [u32; LENGTH] {
-    if swapped(draw(case, 40)) {
-        cache_of(pose(colliders, bodies, 1), pose(colliders, bodies, 0))
+pub fn fill_cache(
+    colliders: &[u32; COLLIDERS_LENGTH],
+    bodies: &[u32; BODIES_LENGTH],
+    record: &mut [u32],
+    case: u32,
+) {
+    let a = pose(colliders, bodies, 0);
+    let b = pose(colliders, bodies, 1);
+    let cache = if swapped(draw(case, 40)) {
+        cache_of(b, a)
     } else {
-        cache_of(pose(colliders, bodies, 0), pose(colliders, bodies, 1))
-    }
-}
-
-pub fn fill_cache(colliders: &[u32], bodies: &[u32], record: &mut [u32], case: u32) {
-    let cache = drawn_cache(colliders, bodies, case);
+        cache_of(a, b)
+    };
     fill(record, CONTACT_CACHED, CACHED_SIZE, |j| {
         cache_word(case, j, word(&cache, j))
     });

@@ -45,7 +45,7 @@ fn count_change(owner: u32) -> u32 {
     if d % 2 == 0 {
         d / 2 % MANIFOLD_COUNTS
     } else {
-        0xffff_ffff - d / 2 % MANIFOLDS
+        u32::MAX - d / 2 % MANIFOLDS
     }
 }
 

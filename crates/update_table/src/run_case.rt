@@ -1,12 +1,12 @@
 // One case: its rows, and the update of its record where all are in range.
 use crate::cache::fill_cache;
 use crate::record::record_word;
-use case_draws::bodies::body_word;
-use case_draws::colliders::collider_word;
-use case_draws::manifolds::proposal_word;
+use case_draws::bodies::fill_body;
+use case_draws::colliders::fill_collider;
+use case_draws::manifolds::fill_proposal;
 use case_draws::numbers;
-use case_draws::places::{fill, fill_nth};
-use case_draws::settings::setting_word;
+use case_draws::places::fill;
+use case_draws::settings::fill_settings;
 use collider::range::colliders_fit;
 use collider::settings::load_settings;
 use contact_range::range::contact_fits;
@@ -38,29 +38,13 @@ impl Case {
         }
     }
 
-    fn fill_collider(&mut self, n: u32, case: u32) {
-        fill_nth(&mut self.colliders, n, numbers::COLLIDER_SIZE, |i| {
-            collider_word(case, n, i)
-        });
-    }
-
-    fn fill_body(&mut self, n: u32, case: u32) {
-        fill_nth(&mut self.bodies, n, numbers::BODY_SIZE, |i| {
-            body_word(case, n, i)
-        });
-    }
-
     pub fn draw(&mut self, case: u32) {
-        fill(&mut self.settings, 0, numbers::SETTINGS_LENGTH, |i| {
-            setting_word(case, i)
-        });
+        fill_settings(&mut self.settings, case);
         for n in 0..2 {
-            self.fill_collider(n, case);
-            self.fill_body(n, case);
+            fill_collider(&mut self.colliders, n, case);
+            fill_body(&mut self.bodies, n, case);
         }
-        fill(&mut self.proposal, 0, numbers::PROPOSAL_SIZE, |i| {
-            proposal_word(case, i)
-        });
+        fill_proposal(&mut self.proposal, 0, case);
         fill(&mut self.record, 0, numbers::CONTACT_SIZE, |i| {
             record_word(case, i)
         });
@@ -69,21 +53,18 @@ impl Case {
 
     // None where a word is out of range.
     pub fn update(&mut self) -> Option<Outcome> {
-        if !colliders_fit(&self.colliders) {
-            return None;
+        if colliders_fit(&self.colliders)
+            && proposal_fits(&self.proposal, 0)
+            && contact_fits(&self.record, 0)
+        {
+            return Some(update_record(
+                load_settings(&self.settings),
+                &self.colliders,
+                &self.bodies,
+                &self.proposal,
+                &mut self.record,
+            ));
         }
-        if !proposal_fits(&self.proposal, 0) {
-            return None;
-        }
-        if !contact_fits(&self.record, 0) {
-            return None;
-        }
-        Some(update_record(
-            load_settings(&self.settings),
-            &self.colliders,
-            &self.bodies,
-            &self.proposal,
-            &mut self.record,
-        ))
+        None
     }
 }

@@ -14,11 +14,7 @@ fn print_outcome<W: Write>(out: &mut W, outcome: Outcome, record: &[u32]) -> io:
     let distance = bits_of(outcome.max_contact_distance);
     let count = manifold_count(record);
     let hash = Hash::of_record(record);
-    write!(
-        out,
-        "\t{bit}\t{recycled}\t{distance:08X}\t{count}\t{:08X}",
-        hash.0
-    )
+    write!(out, "\t{bit}\t{recycled}\t{distance:08X}\t{count}\t{hash}")
 }
 
 pub fn print_cases<W: Write>(out: &mut W) -> io::Result<()> {

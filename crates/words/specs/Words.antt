@@ -1,6 +1,6 @@
 -- Numbers, floats, vectors and quaternions as words, and back. Definitions only.
 -- All are `abbrev`: a value's words are a list that computes, so that lengths and places in it compute.
-use Rattle.std.specs.Prelude.{ℕ, ◌+◌, Bool, cond, List, [], ◌∷◌, get_or, eqb, ltb, Float, Option, Some, None}
+use Rattle.std.specs.Prelude.{ℕ, ◌+◌, Bool, true, cond, ◌&&◌, List, [], ◌∷◌, get_or, eqb, ltb, Float, Option, Some, None}
 use Rattle.std.specs.Float.{binary32}
 use Rattle.std.specs.Float.Ieee.{of_bits, to_bits}
 use Rattle.math.specs.declared.pose.Pose.{Pose}
@@ -31,6 +31,10 @@ mark_at xs at = eqb (word_at xs at) 1
 -- a word is a mark: 0 or 1
 abbrev pub is_mark : ℕ → Bool
 is_mark w = ltb w 2
+
+-- a mark, and what is asked where it is 1
+abbrev pub where_set : ℕ → Bool → Bool
+where_set mark asked = is_mark mark && cond (eqb mark 1) asked true
 
 -- a presence mark, and the value behind a mark of 1
 unfoldable pub if_marked : {A : Type 0} → (List ℕ → ℕ → A) → List ℕ → ℕ → Option A

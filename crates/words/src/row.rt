@@ -1,7 +1,7 @@
 // Marks as words, and runs of words.
 ghost use Rattle.std.specs.Prelude.{◌≡◌, ◌+◌, ◌*◌, ◌≤◌, ◌<◌, length};
 ghost use Rattle.rows.specs.Rows.{part, put};
-ghost use Rattle.words.specs.Words.{word_at, is_mark, mark_word};
+ghost use Rattle.words.specs.Words.{word_at, is_mark, where_set, mark_word};
 
 // A mark's word: 1 for what holds.
 pub fn mark_word(b: bool) -> u32
@@ -16,6 +16,17 @@ pub fn mark_fits(words: &[u32], at: usize) -> bool
     ensures { result ≡ is_mark (word_at words.now at) }
 {
     words[at] < 2
+}
+
+// A mark, and what is asked where it is 1.
+pub fn where_set(mark: u32, asked: bool) -> bool
+    ensures { result ≡ where_set mark asked }
+{
+    match mark {
+        0 => true,
+        1 => asked,
+        _ => false,
+    }
 }
 
 // The words of a struct, as an array that is then made the struct.

@@ -8,9 +8,7 @@ use Rattle.rows.specs.Laws.{length_put}
 use Rattle.contact_graph.specs.AddLaws.{AddRoom, add_room, add_stored}
 use Rattle.contact_range.specs.Recorded.{listed_count}
 use Rattle.contact_graph.proofs.add.add_new.Goals as goal
-
-pub new_id-new-requires : goal.new_id-new-requires
-new_id-new-requires c = c.requires.0
+use Rattle.layout.specs.Graph.{graph_list}
 
 pub contact_at-at-requires : goal.contact_at-at-requires
 contact_at-at-requires c = let z = (add_room c.requires.0 c.requires.2).id in (c.requires.0.right, omega (arith, c.new_id-new.ensures))
@@ -19,7 +17,7 @@ pub store_new-requires : goal.store_new-requires
 store_new-requires c = (c.requires.1, c.contact_at-at.ensures.room)
 
 -- the length is as it was, and the list's next place lies within it
-next_place : {g : List ℕ} {n m : ℕ} → AddRoom g → n ≡ listed_count g → m ≡ length g → 4 + n < m
+next_place : {g : List ℕ} {n m : ℕ} → AddRoom g → n ≡ listed_count g → m ≡ length g → graph_list + n < m
 next_place z p q = omega (arith, z.listed, p, q)
 
 pub store-requires : goal.store-requires

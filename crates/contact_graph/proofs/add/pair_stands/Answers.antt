@@ -1,76 +1,49 @@
--- `contact_graph::add::pair_stands` meets its contract: no pair passed is the same. Assumes nothing.
-use mathlib.Core.Path.{◌≡◌, sym, ap, ◌∙◌}
-use mathlib.Core.Bool.{Bool}
-use mathlib.Core.List.{List}
-use Prim.Native.Nat.{ℕ, ◌+◌, ◌<◌, ◌-◌}
-use native.Mathlib.Nat.{not-suc-le-zero}
+-- `contact_graph::add::pair_stands` meets its contract: some pair passed is the same, or none. Assumes nothing.
+use Prim.Native.Nat.{ℕ, zero, suc}
+use mathlib.Core.Bool.{Bool, true, false, ◌||◌}
+use mathlib.Core.List.{List, [], ◌∷◌, ◌++◌, map}
 use native.Mathlib.Omega.{arith}
+use mathlib.Core.Path.{◌≡◌, refl, sym, ap, ◌∙◌}
 use borrow.Author.Rules.{rules}
-use lib.ListN.{length}
+use Rattle.std.proofs.Math.Numerals.{add-one}
+use Rattle.std.proofs.lemmas.Iterator.{YieldsList-from_range, serves_from_Range}
+use Rattle.std.proofs.lemmas.Iterator.Search.{any_from_yields_List}
+use Rattle.std.proofs.lemmas.List.{map-id}
+use Rattle.std.proofs.lemmas.List.Folds.{list_any-append}
+use Rattle.std.proofs.lemmas.List.FromFn.{map-range_with_len_more}
+use Rattle.std.specs.List.{list_any, range_with_len}
 use Rattle.rules.specs.Numbers.{any}
-use Rattle.rule_laws.specs.NumberLaws.{any_next, any_at, any_none}
-use Rattle.words.specs.Words.{word_at}
-use Rattle.contact_graph.specs.Calls.{pair_stands}
-use Rattle.contact_range.specs.Range.{same_colliders}
-use Rattle.contact_range.specs.RangeLaws.{counts, listed_below}
-use Rattle.contact_range.specs.Recorded.{listed_count, listed_at, contact_at}
-use Rattle.contact_range.specs.Checked.{Checked}
+use Rattle.contact_graph.specs.Calls.{stands_at, pair_stands}
+use Rattle.contact_range.specs.Recorded.{listed_count}
 use Rattle.contact_graph.proofs.add.pair_stands.Goals as goal
-use Rattle.contact_graph.proofs.add.pair_stands.Invariants.{same}
 
-pub loop-p-init : goal.loop-p-init
-loop-p-init c = let s = c.args in (search rules, any_none (same s.graph.now s.a s.b) 0 (λ k h. absurd (not-suc-le-zero h)))
+listed_next : (n : ℕ) → range_with_len 0 (suc n) ≡ range_with_len 0 n ++ n ∷ []
+listed_next n =
+    sym (map-id (range_with_len 0 (suc n)))
+    ∙ ap (λ (k : ℕ). map (λ (x : ℕ). x) (range_with_len 0 k)) (sym (add-one n))
+    ∙ map-range_with_len_more (λ (x : ℕ). x) 0 n n (omega arith)
+    ∙ ap (λ (xs : List ℕ). xs ++ n ∷ []) (map-id (range_with_len 0 n))
 
--- a place of the list lies in the graph
-inside : {g : List ℕ} {p : ℕ} → Checked g → p < listed_count g → 4 + p < length g
-inside c h =
-    let n = counts c.range in
-    let r = c.right in
-    omega (arith, r.size)
+with_false : (a b : Bool) → a || (b || false) ≡ a || b
+with_false true b = refl
+with_false false true = refl
+with_false false false = refl
 
-small : {g : List ℕ} {p : ℕ} → Checked g → p < listed_count g → p < 256
-small c h =
-    let n = counts c.range in
-    let r = c.right in
-    omega arith
+any_listed : (test : ℕ → Bool) (n : ℕ) → list_any test (range_with_len 0 n) ≡ any test n
+unfolding any
+any_listed test zero = refl
+any_listed test (suc n) =
+    ap (list_any test) (listed_next n)
+    ∙ list_any-append test (range_with_len 0 n) (n ∷ [])
+    ∙ ap (λ (b : Bool). b || (test n || false)) (any_listed test n)
+    ∙ with_false (any test n) (test n)
 
--- a place that the loop is at is one of the list
-within : {p n m : ℕ} → p < n → n ≡ m → p < m
-within h e = omega (arith, h, e)
-
-pub overflow_add-p : goal.overflow_add-p
-overflow_add-p c = omega (arith, small c.requires (within c.loop-p-test.true c.load-listed.ensures))
-
-pub id_at-id-requires : goal.id_at-id-requires
-id_at-id-requires c = inside c.requires (within c.loop-p-test.true c.load-listed.ensures)
-
-pub contact_at-at-requires : goal.contact_at-at-requires
-contact_at-at-requires c =
-    let b = listed_below c.requires.range c.loop-p.p (within c.loop-p-test.true c.load-listed.ensures) in
-    (c.requires.right, omega (arith, c.id_at-id.ensures))
-
--- what the comparison says of the pair at that place
-compared : (g : List ℕ) (a b p : ℕ) {id at w1 w2 : ℕ} {r : Bool} → r ≡ same_colliders a b w1 w2 → w1 ≡ word_at g at → w2 ≡ word_at g (at + 1) → at ≡ contact_at g id → id ≡ listed_at g p → r ≡ same g a b p
-compared g a b p e f1 f2 q i =
-    let place = q ∙ ap (contact_at g) i in
-    let e1 = f1 ∙ ap (word_at g) place in
-    let e2 = f2 ∙ ap (λ (n : ℕ). word_at g (n + 1)) place in
-    e ∙ (λ k. same_colliders a b (e1 k) (e2 k))
-
-pub returns-then-same_colliders : goal.returns-then-same_colliders
-unfolding pair_stands
-returns-then-same_colliders c =
-    let s = c.args in
-    sym (any_at (same s.graph.now s.a s.b) (listed_count s.graph.now) c.loop-p.p (within c.loop-p-test.true c.load-listed.ensures) (sym (compared s.graph.now s.a s.b c.loop-p.p c.same_colliders.ensures c.load.ensures c.load-in-loop-p.ensures c.contact_at-at.ensures.place c.id_at-id.ensures) ∙ c.if-same_colliders.true))
-
-pub loop-p-preserved : goal.loop-p-preserved
-loop-p-preserved c =
-    let s = c.args in
-    (omega (arith, within c.loop-p-test.true c.load-listed.ensures), any_next (same s.graph.now s.a s.b) c.loop-p.p c.loop-p.invariant.1 (sym (compared s.graph.now s.a s.b c.loop-p.p c.same_colliders.ensures c.load.ensures c.load-in-loop-p.ensures c.contact_at-at.ensures.place c.id_at-id.ensures) ∙ c.if-same_colliders.false))
+pub any-requires-clause-callable : goal.any-requires-clause-callable
+any-requires-clause-callable c = serves_from_Range (λ x q r. search rules) (λ x low below. search rules)
 
 pub returns : goal.returns
 unfolding pair_stands
 returns c =
-    let s = c.args in
-    let e : c.loop-p.p ≡ listed_count s.graph.now = omega (arith, c.loop-p.invariant.0, c.loop-p-test.false, c.load-listed.ensures) in
-    sym (ap (any (same s.graph.now s.a s.b)) (sym e) ∙ c.loop-p.invariant.1)
+    let g = c.args.graph.now in
+    any_from_yields_List (stands_at g c.args.a c.args.b) _ _ c.any.result c.any.ensures.ran (YieldsList-from_range 0 (listed_count g) (listed_count g) (search rules) (omega arith)) (λ x b q k. search rules)
+    ∙ any_listed (stands_at g c.args.a c.args.b) (listed_count g)

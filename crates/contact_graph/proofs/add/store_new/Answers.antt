@@ -6,13 +6,9 @@ use Rattle.contact_records.specs.NewLaws.{length_new}
 use Rattle.contact_graph.specs.AddLaws.{stored_over}
 use Rattle.contact_graph.proofs.add.store_new.Goals as goal
 
-pub new_words-head-requires : goal.new_words-head-requires
-new_words-head-requires c = c.requires.0
-
 pub returns : goal.returns
 unfolding zeros
 returns c =
     let at2 = c in
-    let at1 = at2 in
-    let words = at1.new_words-head.ensures in
-    stored_over _ _ _ (length_new _ _) at1.store_words.ensures (at2.store_words-2.ensures ∙ ap (put _ _) words)
+    let words = at2.new_words-head.ensures in
+    stored_over _ _ _ (length_new _ _) at2.store_zeros.ensures (at2.store_words.ensures ∙ ap (put _ _) words)

@@ -1,20 +1,14 @@
 -- `contact_graph::remove::remove` meets its contract: the tests in their order, then the removal. Assumes nothing.
-use Rattle.std.proofs.Common.{inl, inr}
-use Rattle.std.proofs.lemmas.Result.{err_from_is_err_and}
-use Rattle.contact_graph.specs.CallLaws.{checked, remove_refused_length, remove_refused_range, remove_refused_none, remove_kept}
+use Rattle.contact_graph.specs.CallLaws.{graph_checked, graph_refused, remove_refused_length, remove_refused_range, remove_refused_none, remove_kept}
+use Rattle.contact_graph.specs.Promises.{Removed}
 use Rattle.contact_range.specs.RangeStepLaws.{refused_by, passed_by}
 use Rattle.contact_graph.proofs.remove.remove.Goals as goal
 
 pub returns-in_err-check_graph : goal.returns-in_err-check_graph
-returns-in_err-check_graph c =
-    let p = err_from_is_err_and c.from_residual.result c.from_residual.ensures.1 in
-    elim c.in_err-check_graph.ensures.is [
-      | inl t ↦ rw (p.1, p.2, t.0) (remove_refused_length _ _ t.1)
-      | inr t ↦ rw (p.1, p.2, t.0) (remove_refused_range _ _ t.1 t.2)
-    ]
+returns-in_err-check_graph c = graph_refused (Removed _ _ _) _ c.from_residual.ensures.1 c.in_err-check_graph.ensures (remove_refused_length _ _) (remove_refused_range _ _)
 
 pub has_contact-requires : goal.has_contact-requires
-has_contact-requires c = let t = c.in_ok-check_graph.ensures.is in checked t.0 t.1
+has_contact-requires c = graph_checked c.in_ok-check_graph.ensures
 
 pub returns-then-not-has_contact : goal.returns-then-not-has_contact
 returns-then-not-has_contact c =
@@ -24,7 +18,7 @@ returns-then-not-has_contact c =
 pub remove_standing-requires : goal.remove_standing-requires
 remove_standing-requires c =
     let t = c.in_ok-check_graph.ensures.is in
-    (checked t.0 t.1, passed_by c.has_contact.ensures c.if-not-has_contact.false)
+    (graph_checked c.in_ok-check_graph.ensures, passed_by c.has_contact.ensures c.if-not-has_contact.false)
 
 pub returns : goal.returns
 returns c =

@@ -7,9 +7,7 @@ use Rattle.rows.specs.Laws.{length_put}
 use Rattle.contact_range.specs.Recorded.{capacity_of, free_count}
 use Rattle.contact_graph.specs.CallLaws.{removal_room, gap_closed}
 use Rattle.contact_graph.proofs.remove.remove_standing.Goals as goal
-
-pub gap_of-gap-requires : goal.gap_of-gap-requires
-gap_of-gap-requires c = c.requires
+use Rattle.layout.specs.Graph.{graph_list}
 
 pub close_gap-requires : goal.close_gap-requires
 close_gap-requires c =
@@ -37,7 +35,7 @@ overflow_add-freed c =
 
 pub returns : goal.returns
 returns c =
-    let next : 4 + c.load-capacity.result + c.load-freed.result ≡ 4 + capacity_of c.args.graph.now + free_count c.args.graph.now
+    let next : graph_list + c.load-capacity.result + c.load-freed.result ≡ graph_list + capacity_of c.args.graph.now + free_count c.args.graph.now
     = omega (arith, c.load-capacity.ensures, c.load-freed.ensures) in
     gap_closed c.gap_of-gap.ensures c.close_gap.ensures next
     c.store.ensures (ap (λ (n : ℕ). n - 1) c.load-listed.ensures)

@@ -9,9 +9,10 @@ use Rattle.rules.specs.Numbers.{every}
 use Rattle.contact_range.specs.Recorded.{free_at}
 use Rattle.contact_range.specs.RangeStepLaws.{Marked}
 use Rattle.contact_range.proofs.range.free_once.Given as goal
+use Rattle.layout.specs.Bits.{most_blocks}
 
 abbrev pub test : List ℕ → ℕ → Bool
 test graph k = every (λ j. not (eqb (free_at graph j) (free_at graph k))) k
 
 abbrev pub invariant-loop-k : goal.invariant-loop-k
-invariant-loop-k l = (l.k ≤ l.freed) × (length l.marks ≡ 4) × (every (test l.graph) l.k ≡ true) × Marked (free_at l.graph) l.k l.marks
+invariant-loop-k l = (l.k ≤ l.freed) × (length l.marks ≡ most_blocks) × (every (test l.graph) l.k ≡ true) × Marked (free_at l.graph) l.k l.marks

@@ -5,35 +5,21 @@ use native.Mathlib.Omega.{arith}
 use Rattle.rows.specs.Rows.{part}
 use Rattle.collider.specs.Views.{plain_settings}
 use Rattle.contact_range.specs.RangeLaws.{standing_below}
+use Rattle.layout.specs.Contact.{contact_size}
 use Rattle.layout.specs.Proposal.{proposal_size}
-use Rattle.contact_update.specs.ContactLaws.{own_room, lent_part, parts_ready, own_updated}
+use Rattle.contact_update.specs.ContactLaws.{lent_part, parts_ready, own_updated}
 use Rattle.contact_update.proofs.contact.update_own.Goals as goal
 
 pub contact_at-at-requires : goal.contact_at-at-requires
 contact_at-at-requires c = (c.requires.checked.right, standing_below c.requires.checked.range _ c.requires.standing)
 
-pub overflow_add-end : goal.overflow_add-end
-overflow_add-end c = let z = own_room c.requires c.contact_at-at.ensures in omega (arith, z.small)
-
-pub overflow_mul-from : goal.overflow_mul-from
-overflow_mul-from c = let z = own_room c.requires c.contact_at-at.ensures in omega (arith, z.below)
-
-pub overflow_add-to : goal.overflow_add-to
-overflow_add-to c = let z = own_room c.requires c.contact_at-at.ensures in omega (arith, z.below)
-
-pub slice_bounds-proposal-count : goal.slice_bounds-proposal-count
-slice_bounds-proposal-count c = omega arith
-
-pub slice_bounds-own-count : goal.slice_bounds-own-count
-slice_bounds-own-count c = omega arith
-
-pub update_record-requires : goal.update_record-requires
-update_record-requires c =
+pub update_words-requires : goal.update_words-requires
+update_words-requires c =
     let x = c.args in
     let from = x.id.0 * proposal_size in
     let at = c.contact_at-at.result in
     let p = lent_part x.input.now.proposals.now from (from + proposal_size - from) proposal_size (omega arith) in
-    let w = lent_part x.graph.now at (at + 523 - at) 523 (omega arith) ∙ ap (λ (a : ℕ). part x.graph.now a 523) c.contact_at-at.ensures.place in
+    let w = lent_part x.graph.now at (at + contact_size - at) contact_size (omega arith) ∙ ap (λ (a : ℕ). part x.graph.now a contact_size) c.contact_at-at.ensures.place in
     parts_ready (plain_settings x.input.now.settings) c.requires _ _ p w
 
 pub returns : goal.returns
@@ -42,4 +28,4 @@ returns c =
     let from = x.id.0 * proposal_size in
     let at = c.contact_at-at.result in
     let p = lent_part x.input.now.proposals.now from (from + proposal_size - from) proposal_size (omega arith) in
-    own_updated _ c.requires _ _ _ _ p refl c.update_record.ensures c.contact_at-at.ensures.place (let e : at + 523 - at ≡ 523 = omega arith in e)
+    own_updated _ c.requires _ _ _ _ p refl c.update_words.ensures c.contact_at-at.ensures.place (let e : at + contact_size - at ≡ contact_size = omega arith in e)

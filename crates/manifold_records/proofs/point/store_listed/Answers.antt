@@ -16,9 +16,8 @@ loop-k-init c = (search rules, refl, refl)
 
 pub loop-k-preserved : goal.loop-k-preserved
 loop-k-preserved c =
-    let w = c in
-    let n : length w.args.points ≡ 4 = search rules in
-    (search rules, search rules, each_step (λ p. point_words (point_of p)) 18 point_size_lem _ _ _ w.loop-k.k _ w.loop-k.invariant.2 c.store_point.ensures (search rules))
+    let n : length c.args.points ≡ 4 = search rules in
+    (search rules, search rules, each_step (λ p. point_words (point_of p)) 18 point_size_lem _ _ _ c.loop-k.k _ c.loop-k.invariant.2 c.store_point.ensures (search rules))
 
 pub returns : goal.returns
 returns c =

@@ -1,4 +1,6 @@
--- What the loops of `math::root::corrected` keep, and how far there is still to go.
+-- What the loops of `math::root::corrected` keep. The first loop keeps q at most 2 ^ 24; after it q can only be too small, which the second loop keeps.
+-- The measure of each is how far q still is from the number looked for, so there are at most as many passes as the guess is off after its one step:
+-- none where it was at most one off (`no_pass`), and never more than 2 ^ 24 (`passes_le`).
 use Rattle.std.proofs.Common.{◌+◌, ◌-◌, ◌*◌, ◌^◌, ◌<◌, ◌≤◌}
 use Rattle.math.proofs.CorrectedLaws.{nearest_whole}
 use Rattle.math.proofs.root.corrected.Given as goal

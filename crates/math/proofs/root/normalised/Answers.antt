@@ -1,17 +1,11 @@
 -- `math::root::normalised` meets its contract. Assumes nothing.
 use Rattle.std.proofs.Common.{◌≡◌, ℕ, ◌+◌, ◌-◌, ◌*◌, ◌/◌, ◌^◌, sym, subst, arith}
 use Rattle.math.specs.Estimate.{IsNormal, leading}
-use Rattle.math.proofs.ReducedLaws.{up, zeros_ge, up_le, up_whole, up_normal, up_value}
+use Rattle.math.proofs.ReducedLaws.{up, zeros_ge, up_whole, up_normal, up_value}
 use Rattle.math.proofs.root.normalised.Goals as goal
 
 pub overflow_sub-places : goal.overflow_sub-places
 overflow_sub-places c = zeros_ge c.args.m c.requires.0 c.requires.1
-
-pub overflow_sub-result : goal.overflow_sub-result
-overflow_sub-result c = up_le c.args.m c.requires.0 c.requires.1
-
-pub overflow_shl-result : goal.overflow_shl-result
-overflow_shl-result c = let u = up_le c.args.m c.requires.0 c.requires.1 in omega arith
 
 pub overflow_add-result : goal.overflow_add-result
 overflow_add-result c =

@@ -25,9 +25,6 @@ module _ (c : After-bits_of-b) where
   root_is : (a : ℕ) → 0 < a → HasValue (of_bits binary32 b) false a (2 ^ 149) → root_of binary32 x ≡ nearest_root binary32 (a * 2 ^ 149)
   root_is a A v = ap (root_of binary32) is ∙ of_value binary32 (of_bits binary32 b) a v A
 
-pub root_normal-requires : goal.root_normal-requires
-root_normal-requires c = is_normal c.bits_of-b.result c.if-b.true
-
 pub returns-then-b : goal.returns-then-b
 unfolding root
 returns-then-b c =

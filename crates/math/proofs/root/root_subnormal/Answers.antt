@@ -2,14 +2,8 @@
 use Rattle.std.proofs.Common.{ℕ, ◌*◌, ◌^◌, sym, ap, ◌∙◌, mul_assoc, arith}
 use lib.Ieee.{binary32}
 use Rattle.math.specs.Root.{nearest_root}
-use Rattle.math.proofs.ReducedLaws.{root_digits_le, digits_bits}
+use Rattle.math.proofs.ReducedLaws.{digits_bits}
 use Rattle.math.proofs.root.root_subnormal.Goals as goal
-
-pub overflow_add-result-2 : goal.overflow_add-result-2
-overflow_add-result-2 c =
-    let q = root_digits_le c.normalised-b.result c.root_digits.result c.root_digits.ensures in
-    let b = c.normalised-b.ensures.0.1 in
-    omega arith
 
 pub returns : goal.returns
 returns c =

@@ -1,8 +1,7 @@
 -- `narrow_phase::manifold::kept_numbers` meets its contract. Assumes nothing.
-use Rattle.std.proofs.Common.{◌∙◌, arith, rules}
-use Rattle.contact_types.specs.PruneEndLaws.{kept_front}
+use native.Mathlib.Omega.{arith}
 use Rattle.contact_types.specs.PruneLaws.{kept_numbers, kept_most}
 use Rattle.narrow_phase.proofs.manifold.kept_numbers.Goals as goal
 
 pub returns : goal.returns
-returns c = record { few = λ h. absurd (omega (arith, c.if-count-le-STORED_POINTS.false)); many = λ h. kept_numbers _ _ _ c.prune_points.ensures ∙ kept_front _ _ _ (search rules); most = kept_most _ _ _ c.prune_points.ensures }
+returns c = record { few = λ h. absurd (omega (arith, c.if-view-le-STORED_POINTS.false)); many = λ h. kept_numbers _ _ _ c.prune_points.ensures; most = kept_most _ _ _ c.prune_points.ensures }

@@ -6,7 +6,7 @@ use lib.ListN.{length-set}
 use Rattle.rows.specs.Slots.{upto}
 use Rattle.rules.specs.Filtering.{stays, staying}
 use Rattle.proposals.specs.Recorded.{proposed_points_at}
-use Rattle.narrow_phase.specs.KeepingLaws.{view_both, picked_at, kept_picked}
+use Rattle.narrow_phase.specs.KeepingLaws.{front_numbers, view_both, picked_at, kept_picked}
 use Rattle.narrow_phase.specs.StayingLaws.{stays_step, gone_step}
 use Rattle.narrow_phase.specs.Views.{first_points}
 use borrow.Author.Rules.{rules}
@@ -46,7 +46,7 @@ returns c =
     let w = c.loop-k in
     let e : w.k ≡ c.args.n = search rules in
     let l = w.invariant.2 in
-    kept_picked _ w.count w.points w.view c.kept_numbers-kept.result _ (omega (arith, w.invariant.1)) l _ (rw e at w.invariant.4) w.invariant.5 c.kept_numbers-kept.ensures
+    kept_picked _ w.count w.points w.view c.kept_numbers-kept.result _ (omega (arith, w.invariant.1)) l _ (rw e at w.invariant.4) w.invariant.5 (front_numbers _ _ _ (omega (arith, w.invariant.0, w.invariant.1, w.invariant.3, c.requires.0)) c.kept_numbers-kept.ensures)
     (record {
       first = _;
       second = _;

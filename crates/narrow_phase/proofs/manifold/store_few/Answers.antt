@@ -5,6 +5,7 @@ use native.Mathlib.Omega.{arith}
 use Rattle.rows.specs.Rows.{put}
 use Rattle.rows.specs.Slots.{upto}
 use Rattle.rules.specs.Filtering.{staying}
+use Rattle.rules.specs.Limits.{stored_points}
 use Rattle.proposals.specs.Recorded.{proposed_points_at}
 use Rattle.narrow_phase.specs.StoringLaws.{point_stored_lem, point_gone, few_stored}
 use borrow.Author.Rules.{rules}
@@ -18,7 +19,7 @@ loop-k-init c = (search rules, search rules, record { words = refl; count = refl
 pub loop-k-preserved : goal.loop-k-preserved
 loop-k-preserved c =
     let w = c.loop-k in
-    let few : w.count < 4 = omega (arith, w.invariant.0, w.invariant.1, c.loop-k-test.true, c.requires.0) in
+    let few : w.count < stored_points = omega (arith, w.invariant.0, w.invariant.1, c.loop-k-test.true, c.requires.0) in
     elim c.match-staying_point.branch [
       | in-Some z ↦
           let s = c.staying_point.ensures.some _ z.in-Some.is in

@@ -5,6 +5,7 @@ use native.Mathlib.Omega.{arith}
 use Rattle.rows.specs.Rows.{put}
 use Rattle.rows.specs.Slots.{upto}
 use Rattle.rules.specs.Filtering.{without_empty}
+use Rattle.rules.specs.Limits.{pair_manifolds}
 use Rattle.proposals.specs.Recorded.{proposed_manifold_at}
 use Rattle.layout.specs.Proposal.{proposal_manifolds, proposed_manifold_size}
 use Rattle.narrow_phase.specs.StoringLaws.{manifold_counts, manifold_goes, all_stored}
@@ -20,15 +21,14 @@ loop-k-init c =
 
 pub loop-k-preserved : goal.loop-k-preserved
 loop-k-preserved c =
-    let m = c in
-    let w = m.loop-k in
-    let few : w.count < 6 = omega (arith, w.invariant.1, w.invariant.2, m.loop-k-test.true) in (
+    let w = c.loop-k in
+    let few : w.count < pair_manifolds = omega (arith, w.invariant.1, w.invariant.2, c.loop-k-test.true) in (
       search rules,
       w.invariant.1,
       elim c.if-left-ne0.branch [ then-left-ne0 z ↦ omega arith | else-left-ne0 z ↦ omega arith ],
       elim c.if-left-ne0.branch [
-        | then-left-ne0 z ↦ manifold_counts _ (λ j. proposed_manifold_at _ (proposal_manifolds + j * proposed_manifold_size)) w.k _ _ w.count w.invariant.3 m.store_filtered-left.ensures z.if-left-ne0.true few z.count-is
-        | else-left-ne0 z ↦ manifold_goes _ (λ j. proposed_manifold_at _ (proposal_manifolds + j * proposed_manifold_size)) w.k _ _ w.count w.invariant.3 m.store_filtered-left.ensures z.if-left-ne0.false z.count-is
+        | then-left-ne0 z ↦ manifold_counts _ (λ j. proposed_manifold_at _ (proposal_manifolds + j * proposed_manifold_size)) w.k _ _ w.count w.invariant.3 c.store_filtered-left.ensures z.if-left-ne0.true few z.count-is
+        | else-left-ne0 z ↦ manifold_goes _ (λ j. proposed_manifold_at _ (proposal_manifolds + j * proposed_manifold_size)) w.k _ _ w.count w.invariant.3 c.store_filtered-left.ensures z.if-left-ne0.false z.count-is
       ],
     )
 

@@ -2,8 +2,7 @@
 use mathlib.Core.Path.{refl}
 use Prim.Native.Nat.{◌+◌, ◌*◌}
 use lib.Dec.{leb}
-use native.Mathlib.Omega.{arith}
-use borrow.Author.Tests.{le-leb, lt-leb}
+use borrow.Author.Tests.{le-leb}
 use Rattle.words.specs.Words.{word_at}
 use Rattle.rules.specs.Limits.{pair_manifolds, proposed_points}
 use Rattle.layout.specs.Proposal.{proposal_manifolds, proposed_manifold_size}
@@ -19,9 +18,3 @@ returns-then-count-le-MANIFOLDS c =
     let all = every_from_all (λ k. leb (word_at a.words.now (a.at + proposal_manifolds + k * proposed_manifold_size)) proposed_points) c.load-count.result _ _ c.all.result c.all.ensures.ran refl (λ x b q k. search rules) in
     let few = le-leb c.load-count.result pair_manifolds c.if-count-le-MANIFOLDS.true in
     rw (← c.load-count.ensures, few, ← all)
-
-pub returns-else-count-le-MANIFOLDS : goal.returns-else-count-le-MANIFOLDS
-unfolding proposal_fits
-returns-else-count-le-MANIFOLDS c =
-    let many = lt-leb c.load-count.result pair_manifolds (omega (arith, c.if-count-le-MANIFOLDS.false)) in
-    rw (← c.load-count.ensures, many)

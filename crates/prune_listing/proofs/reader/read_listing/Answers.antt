@@ -4,8 +4,8 @@ use Rattle.prune_listing.specs.Listing.{normal_line}
 use Rattle.prune_listing.specs.ListingLaws.{too_long, no_normal, no_points, all_read}
 use Rattle.prune_listing.proofs.reader.read_listing.Goals as goal
 
-pub returns-then-text-gt65536 : goal.returns-then-text-gt65536
-returns-then-text-gt65536 c = too_long _ _ c.if-text-gt65536.true
+pub returns-then-text-gt-LONGEST : goal.returns-then-text-gt-LONGEST
+returns-then-text-gt-LONGEST c = too_long _ _ c.if-text-gt-LONGEST.true
 
 pub returns-in_err-normal : goal.returns-in_err-normal
 unfolding normal_line

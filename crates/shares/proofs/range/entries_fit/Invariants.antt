@@ -2,7 +2,7 @@
 use mathlib.Core.Path.{◌≡◌}
 use mathlib.Core.Bool.{Bool, true, not}
 use mathlib.Core.List.{List}
-use Prim.Native.Nat.{ℕ, ◌≤◌, ◌-◌}
+use Prim.Native.Nat.{ℕ, ◌≤◌}
 use lib.Dec.{eqb}
 use lib.ListN.{length}
 use Rattle.rules.specs.Numbers.{every}
@@ -10,6 +10,7 @@ use Rattle.contact_range.specs.Range.{stands}
 use Rattle.contact_range.specs.RangeStepLaws.{Marked}
 use Rattle.shares.specs.Shares.{entry_at}
 use Rattle.shares.proofs.range.entries_fit.Given as goal
+use Rattle.layout.specs.Bits.{most_blocks}
 
 abbrev pub standing : List ℕ → List ℕ → ℕ → Bool
 standing shares graph k = stands graph (entry_at shares k)
@@ -19,4 +20,4 @@ fresh shares k = every (λ j. not (eqb (entry_at shares j) (entry_at shares k)))
 
 abbrev pub invariant-loop-k : goal.invariant-loop-k
 invariant-loop-k l =
-    (l.k ≤ l.total) × (length l.marks ≡ 4) × (every (standing l.shares l.graph) l.k ≡ true) × (every (fresh l.shares) l.k ≡ true) × Marked (entry_at l.shares) l.k l.marks
+    (l.k ≤ l.total) × (length l.marks ≡ most_blocks) × (every (standing l.shares l.graph) l.k ≡ true) × (every (fresh l.shares) l.k ≡ true) × Marked (entry_at l.shares) l.k l.marks

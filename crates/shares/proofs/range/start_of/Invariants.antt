@@ -1,6 +1,6 @@
 -- What the loop of `shares::range::start_of` keeps.
 use mathlib.Core.Path.{◌≡◌}
-use Prim.Native.Nat.{◌≤◌, ◌*◌, ◌-◌}
+use Prim.Native.Nat.{◌≤◌, ◌*◌}
 use Rattle.shares.specs.Shares.{start_of}
 use Rattle.shares.proofs.range.start_of.Given as goal
 

@@ -6,12 +6,6 @@ use Rattle.status_pass.specs.declared.verdict.Verdict.{Verdict}
 use Rattle.status_pass.specs.declared.verdict.Verdict.TheVariants.{Vanishes, Starts, Stops, Generates, Recounts, Persists}
 use Rattle.status_pass.proofs.visit.leave.Goals as goal
 
-pub remove_standing-requires : goal.remove_standing-requires
-remove_standing-requires c = c.requires
-
-pub settle_own-requires : goal.settle_own-requires
-settle_own-requires c = c.requires
-
 pub returns-in-Vanishes : goal.returns-in-Vanishes
 unfolding visited_graph
 returns-in-Vanishes c = rw c.in-Vanishes.is c.remove_standing.ensures

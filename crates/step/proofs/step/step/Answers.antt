@@ -13,32 +13,32 @@ numbers_fit-requires c = let k = lengths_given _ _ _ (passed_by c.lengths_fit.en
 pub returns-then-not-numbers_fit : goal.returns-then-not-numbers_fit
 returns-then-not-numbers_fit c = step_refused _ _ _ _ (refused_numbers _ _ _ (passed_by c.lengths_fit.ensures c.if-not-lengths_fit.false) (refused_by c.numbers_fit.ensures c.if-not-numbers_fit.true))
 
-pub proposals_fit-too_large-requires : goal.proposals_fit-too_large-requires
-proposals_fit-too_large-requires c =
+pub proposals_fit-requires : goal.proposals_fit-requires
+proposals_fit-requires c =
     (numbers_checked _ _ _ (passed_by c.lengths_fit.ensures c.if-not-lengths_fit.false) (passed_by c.numbers_fit.ensures c.if-not-numbers_fit.false), (lengths_given _ _ _ (passed_by c.lengths_fit.ensures c.if-not-lengths_fit.false)).proposals)
 
-pub returns-then-too_large : goal.returns-then-too_large
-returns-then-too_large c =
+pub returns-then-not-proposals_fit : goal.returns-then-not-proposals_fit
+returns-then-not-proposals_fit c =
     step_refused _ _ _ _
-    (refused_proposals _ _ _ (passed_by c.lengths_fit.ensures c.if-not-lengths_fit.false) (passed_by c.numbers_fit.ensures c.if-not-numbers_fit.false) (refused_by c.proposals_fit-too_large.ensures c.if-too_large.true))
+    (refused_proposals _ _ _ (passed_by c.lengths_fit.ensures c.if-not-lengths_fit.false) (passed_by c.numbers_fit.ensures c.if-not-numbers_fit.false) (refused_by c.proposals_fit.ensures c.if-not-proposals_fit.true))
 
-pub shares_fit-invalid-requires : goal.shares_fit-invalid-requires
-shares_fit-invalid-requires c =
+pub shares_fit-requires : goal.shares_fit-requires
+shares_fit-requires c =
     (numbers_checked _ _ _ (passed_by c.lengths_fit.ensures c.if-not-lengths_fit.false) (passed_by c.numbers_fit.ensures c.if-not-numbers_fit.false), (lengths_given _ _ _ (passed_by c.lengths_fit.ensures c.if-not-lengths_fit.false)).shares)
 
-pub returns-then-invalid : goal.returns-then-invalid
-returns-then-invalid c =
+pub returns-then-not-shares_fit : goal.returns-then-not-shares_fit
+returns-then-not-shares_fit c =
     step_refused _ _ _ _
-    (refused_shares _ _ _ (passed_by c.lengths_fit.ensures c.if-not-lengths_fit.false) (passed_by c.numbers_fit.ensures c.if-not-numbers_fit.false) (passed_by c.proposals_fit-too_large.ensures c.if-too_large.false)
-    (refused_by c.shares_fit-invalid.ensures c.if-invalid.true))
+    (refused_shares _ _ _ (passed_by c.lengths_fit.ensures c.if-not-lengths_fit.false) (passed_by c.numbers_fit.ensures c.if-not-numbers_fit.false) (passed_by c.proposals_fit.ensures c.if-not-proposals_fit.false)
+    (refused_by c.shares_fit.ensures c.if-not-shares_fit.true))
 
 pub step_accepted-requires : goal.step_accepted-requires
 step_accepted-requires c =
-    accepted_all _ _ _ (passed_by c.lengths_fit.ensures c.if-not-lengths_fit.false) (passed_by c.numbers_fit.ensures c.if-not-numbers_fit.false) (passed_by c.proposals_fit-too_large.ensures c.if-too_large.false)
-    (passed_by c.shares_fit-invalid.ensures c.if-invalid.false)
+    accepted_all _ _ _ (passed_by c.lengths_fit.ensures c.if-not-lengths_fit.false) (passed_by c.numbers_fit.ensures c.if-not-numbers_fit.false) (passed_by c.proposals_fit.ensures c.if-not-proposals_fit.false)
+    (passed_by c.shares_fit.ensures c.if-not-shares_fit.false)
 
 pub returns : goal.returns
 returns c =
     step_kept _ _ _
-    (accepted_all _ _ _ (passed_by c.lengths_fit.ensures c.if-not-lengths_fit.false) (passed_by c.numbers_fit.ensures c.if-not-numbers_fit.false) (passed_by c.proposals_fit-too_large.ensures c.if-too_large.false)
-    (passed_by c.shares_fit-invalid.ensures c.if-invalid.false)) c.step_accepted.ensures
+    (accepted_all _ _ _ (passed_by c.lengths_fit.ensures c.if-not-lengths_fit.false) (passed_by c.numbers_fit.ensures c.if-not-numbers_fit.false) (passed_by c.proposals_fit.ensures c.if-not-proposals_fit.false)
+    (passed_by c.shares_fit.ensures c.if-not-shares_fit.false)) c.step_accepted.ensures

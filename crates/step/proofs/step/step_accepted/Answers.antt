@@ -1,5 +1,6 @@
 -- `step::step::step_accepted` meets its contract: the updates, the standing contacts, the status pass. Assumes nothing.
-use mathlib.Core.Path.{refl, ap, ◌∙◌}
+use mathlib.Core.Path.{refl, sym, ap, ◌∙◌}
+use Rattle.std.proofs.lemmas.List.{length-take-le}
 use native.Mathlib.Omega.{arith}
 use Rattle.data_structures.specs.BitVec.{blocks_of}
 use Rattle.step.specs.AcceptedLaws.{accepted}
@@ -22,12 +23,26 @@ standing-n-requires c =
     let k = c.blocks-count.ensures ∙ ap blocks_of c.load.ensures in
     (bits_size a u k, count_few a u k, refl)
 
+pub slice_bounds-ids-end : goal.slice_bounds-ids-end
+slice_bounds-ids-end c =
+    let a = accepted _ _ _ c.requires in
+    let u = updates_left a c.load_settings.ensures c.update_all-recycled.ensures in
+    let k = c.blocks-count.ensures ∙ ap blocks_of c.load.ensures in
+    ids_room a u k refl c.standing-n.ensures
+
+pub slice_bounds-pass-end : goal.slice_bounds-pass-end
+slice_bounds-pass-end c =
+    let a = accepted _ _ _ c.requires in
+    let u = updates_left a c.load_settings.ensures c.update_all-recycled.ensures in
+    let k = c.blocks-count.ensures ∙ ap blocks_of c.load.ensures in
+    sym (length-take-le _ _ (ids_room a u k refl c.standing-n.ensures))
+
 pub pass-counts-requires : goal.pass-counts-requires
 pass-counts-requires c =
     let a = accepted _ _ _ c.requires in
     let u = updates_left a c.load_settings.ensures c.update_all-recycled.ensures in
     let k = c.blocks-count.ensures ∙ ap blocks_of c.load.ensures in
-    (ids_room a u k refl c.standing-n.ensures, rows_there a u k refl c.standing-n.ensures)
+    rows_there a u k refl c.standing-n.ensures
 
 pub overflow_cast-result : goal.overflow_cast-result
 overflow_cast-result c =

@@ -2,5 +2,5 @@
 use Rattle.text.proofs.WordLaws.{WordTo}
 use Rattle.text.proofs.reader.read_word.Given as goal
 
-abbrev pub invariant-loop-k : goal.invariant-loop-k
-invariant-loop-k l = WordTo l.text l.at l.k l.value
+abbrev pub invariant-loop-b : goal.invariant-loop-b
+invariant-loop-b l = WordTo l.text l.at l.b-index l.value

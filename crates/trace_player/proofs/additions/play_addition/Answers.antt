@@ -1,9 +1,8 @@
 -- `trace_player::additions::play_addition` meets its contract. Assumes nothing.
 use Rattle.std.specs.Prelude.{Result}
-use mathlib.Core.Path.{sym, ap, subst, ◌∙◌}
+use mathlib.Core.Path.{sym, subst}
 use Rattle.contact_graph.specs.Promises.{add_answer}
-use Rattle.trace_rules.specs.Printed.{refused_text}
-use Rattle.trace_player.specs.PlayLaws.{IsAdded, added_for, written_as, addition_accepted, addition_refused, nothing_written}
+use Rattle.trace_player.specs.PlayLaws.{IsAdded, added_for, written_as, addition_accepted, nothing_written}
 use Rattle.trace_player.proofs.additions.play_addition.Goals as goal
 use Rattle.contact_types.specs.declared.refusal.Refusal.{Refusal}
 use Rattle.contact_types.specs.declared.contact_id.ContactId.{ContactId}
@@ -13,9 +12,3 @@ returns-in-Ok c =
     let p = added_for c.load_request.ensures c.add.ensures in
     let q = addition_accepted _ _ _ _ p (subst (λ (r : Result ContactId Refusal). IsAdded (add_answer r)) (sym c.in-Ok.is) tt) in
     record { graph = q.0; text = written_as (sym q.1) (nothing_written _) }
-
-pub returns-in-Err : goal.returns-in-Err
-returns-in-Err c =
-    let p = added_for c.load_request.ensures c.add.ensures in
-    let q = addition_refused _ _ _ _ _ p (ap add_answer c.in-Err.is) in
-    record { graph = q.0; text = written_as (ap refused_text c.number.ensures ∙ sym q.1) c.write_refused.ensures }

@@ -7,7 +7,7 @@ pub go_fits-requires : goal.go_fits-requires
 go_fits-requires c = (length_parts _ _ _ c.requires).0
 
 pub returns-then-not-go_fits : goal.returns-then-not-go_fits
-returns-then-not-go_fits c = let f = refused_by c.go_fits.ensures c.if-not-go_fits.true in go_refused _ _ _ _ _ f c.write_refused.ensures
+returns-then-not-go_fits c = let f = refused_by c.go_fits.ensures c.if-not-go_fits.true in go_refused _ _ _ _ _ f (rw c.number.ensures at c.write_refused.ensures)
 
 pub fill_given-requires : goal.fill_given-requires
 fill_given-requires c =

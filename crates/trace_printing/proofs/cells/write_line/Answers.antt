@@ -6,8 +6,8 @@ use Rattle.trace_printing.specs.Cells.{cell_of}
 use Rattle.trace_printing.specs.LineLaws.{cells_room, cells_next, cells_ended}
 use Rattle.trace_printing.proofs.cells.write_line.Goals as goal
 
-pub write_cell-next-requires : goal.write_cell-next-requires
-write_cell-next-requires c =
+pub write_cell-requires : goal.write_cell-requires
+write_cell-requires c =
     let n : length (map cell_of c.args.cells.now) ≡ length c.args.cells.now = length-map c.args.cells.now cell_of in
     let r = cells_room (map cell_of c.args.cells.now) c.loop-cell.cell-index c.loop-cell.invariant.0 (omega arith) in
     omega arith
@@ -15,15 +15,15 @@ write_cell-next-requires c =
 pub loop-cell-preserved : goal.loop-cell-preserved
 loop-cell-preserved c =
     let n : length (map cell_of c.args.cells.now) ≡ length c.args.cells.now = length-map c.args.cells.now cell_of in
-    (cells_next (map cell_of c.args.cells.now) c.loop-cell.cell-index _ c.loop-cell.invariant.0 (omega arith) (sym (get_or-map cell_of c.args.cells.now c.loop-cell.cell-index _ _ c.loop-cell-test.true)) c.write_cell-next.ensures, search rules)
+    (cells_next (map cell_of c.args.cells.now) c.loop-cell.cell-index _ c.loop-cell.invariant.0 (omega arith) (sym (get_or-map cell_of c.args.cells.now c.loop-cell.cell-index _ _ c.loop-cell-test.true)) c.write_cell.ensures.written, search rules)
 
-pub write_byte-requires : goal.write_byte-requires
-write_byte-requires c =
+pub write_byte-requires-2 : goal.write_byte-requires-2
+write_byte-requires-2 c =
     let n : length (map cell_of c.args.cells.now) ≡ length c.args.cells.now = length-map c.args.cells.now cell_of in
     let r = cells_room (map cell_of c.args.cells.now) c.loop-cell.cell-index c.loop-cell.invariant.0 (omega arith) in
     omega arith
 
-pub returns : goal.returns
-returns c =
+pub returns-clause-written : goal.returns-clause-written
+returns-clause-written c =
     let n : length (map cell_of c.args.cells.now) ≡ length c.args.cells.now = length-map c.args.cells.now cell_of in
-    cells_ended (map cell_of c.args.cells.now) c.loop-cell.invariant.0 (omega arith) c.write_byte.ensures
+    cells_ended (map cell_of c.args.cells.now) c.loop-cell.invariant.0 (omega arith) c.write_byte-2.ensures.written

@@ -11,10 +11,10 @@ use Rattle.trace_printing.specs.LineLaws.{length_change, no_lines, next_line}
 use Rattle.trace_printing.proofs.lines.write_changes.Goals as goal
 
 pub loop-k-init : goal.loop-k-init
-loop-k-init c = let a = c.args in (search rules, refl, no_lines change_text (λ n. change_at a.changes.now (n * change_size)) change_room length_change a.out.now a.at)
+loop-k-init c = let a = c.args in (search rules, refl, no_lines change_text (λ n. change_at a.changes.now (n * change_size)) change_room length_change a.lines.now.row.now a.lines.now.at)
 
-pub write_change-place-requires : goal.write_change-place-requires
-write_change-place-requires c =
+pub write_change-requires : goal.write_change-requires
+write_change-requires c =
     let p = c.requires in
     let w = c.loop-k.invariant.2 in
     (omega (arith, p.0), omega (arith, p.1, w.below))
@@ -23,10 +23,10 @@ pub loop-k-preserved : goal.loop-k-preserved
 loop-k-preserved c =
     let a = c.args in
     let l = c.loop-k in
-    (search rules, search rules, next_line change_text (λ n. change_at a.changes.now (n * change_size)) change_room length_change a.out.now a.at l.k l.out _ l.place _ l.invariant.2 c.write_change-place.ensures)
+    (search rules, search rules, next_line change_text (λ n. change_at a.changes.now (n * change_size)) change_room length_change a.lines.now.row.now a.lines.now.at l.k l.lines.row.now _ l.lines.at _ l.invariant.2 c.write_change.ensures.written)
 
-pub returns : goal.returns
-returns c =
+pub returns-clause-written : goal.returns-clause-written
+returns-clause-written c =
     let l = c.loop-k in
     let e : l.k ≡ c.args.count = search rules in
     rw (← e) l.invariant.2.lines

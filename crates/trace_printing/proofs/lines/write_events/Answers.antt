@@ -11,10 +11,10 @@ use Rattle.trace_printing.specs.LineLaws.{length_event, no_lines, next_line}
 use Rattle.trace_printing.proofs.lines.write_events.Goals as goal
 
 pub loop-k-init : goal.loop-k-init
-loop-k-init c = let a = c.args in (search rules, refl, no_lines event_text (λ n. event_at a.events.now (n * event_size)) event_room length_event a.out.now a.at)
+loop-k-init c = let a = c.args in (search rules, refl, no_lines event_text (λ n. event_at a.events.now (n * event_size)) event_room length_event a.lines.now.row.now a.lines.now.at)
 
-pub write_event-place-requires : goal.write_event-place-requires
-write_event-place-requires c =
+pub write_event-requires : goal.write_event-requires
+write_event-requires c =
     let p = c.requires in
     let w = c.loop-k.invariant.2 in
     (omega (arith, p.0), omega (arith, p.1, w.below))
@@ -23,10 +23,10 @@ pub loop-k-preserved : goal.loop-k-preserved
 loop-k-preserved c =
     let a = c.args in
     let l = c.loop-k in
-    (search rules, search rules, next_line event_text (λ n. event_at a.events.now (n * event_size)) event_room length_event a.out.now a.at l.k l.out _ l.place _ l.invariant.2 c.write_event-place.ensures)
+    (search rules, search rules, next_line event_text (λ n. event_at a.events.now (n * event_size)) event_room length_event a.lines.now.row.now a.lines.now.at l.k l.lines.row.now _ l.lines.at _ l.invariant.2 c.write_event.ensures.written)
 
-pub returns : goal.returns
-returns c =
+pub returns-clause-written : goal.returns-clause-written
+returns-clause-written c =
     let l = c.loop-k in
     let e : l.k ≡ c.args.count = search rules in
     rw (← e) l.invariant.2.lines

@@ -1,7 +1,6 @@
 -- What the loop of `trace_printing::lines::write_events` keeps.
 use mathlib.Core.Path.{◌≡◌}
 use Prim.Native.Nat.{◌*◌, ◌≤◌}
-use lib.ListN.{length}
 use Rattle.layout.specs.Event.{event_size}
 use Rattle.step.specs.Read.{event_at}
 use Rattle.trace_rules.specs.Printed.{event_text}
@@ -10,4 +9,4 @@ use Rattle.trace_printing.specs.LineLaws.{length_event, LinesWritten}
 use Rattle.trace_printing.proofs.lines.write_events.Given as goal
 
 abbrev pub invariant-loop-k : goal.invariant-loop-k
-invariant-loop-k l = (l.k ≤ l.count) × (length l.out ≡ length l.initial.out) × LinesWritten event_text (λ n. event_at l.events (n * event_size)) event_room length_event l.initial.out l.at l.k l.out l.place
+invariant-loop-k l = (l.k ≤ l.count) × (l.lines.row.ghost_name ≡ l.initial.lines.row.ghost_name) × LinesWritten event_text (λ n. event_at l.events (n * event_size)) event_room length_event l.initial.lines.row.now l.initial.lines.at l.k l.lines.row.now l.lines.at

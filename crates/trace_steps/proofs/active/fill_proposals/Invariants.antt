@@ -4,11 +4,11 @@ use Prim.Native.Nat.{◌*◌, ◌≤◌}
 use lib.ListN.{length}
 use Rattle.layout.specs.Proposal.{proposal_size}
 use Rattle.contact_range.specs.Recorded.{capacity_of}
-use Rattle.trace_rules.specs.Places.{lines_between}
 use Rattle.trace_rules.specs.Records.{step_record}
 use Rattle.trace_steps.specs.ProposalsLaws.{Filled}
+use Rattle.trace_steps.specs.Stretch.{lines_of}
 use Rattle.trace_steps.proofs.active.fill_proposals.Given as goal
 
 abbrev pub invariant-loop-p : goal.invariant-loop-p
 invariant-loop-p l =
-    (l.p ≤ l.listed) × (length l.proposals ≡ capacity_of l.graph * proposal_size) × Filled (step_record (lines_between l.text l.start l.stop)).proposal l.graph l.p l.proposals
+    (l.p ≤ l.listed) × (length l.proposals ≡ capacity_of l.graph * proposal_size) × Filled (step_record (lines_of l.stretch)).proposal l.graph l.p l.proposals

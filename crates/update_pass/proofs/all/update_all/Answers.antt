@@ -6,45 +6,21 @@ use lib.ListN.{length}
 use Rattle.rows.specs.Rows.{put}
 use Rattle.rows.specs.Laws.{put_whole}
 use Rattle.data_structures.specs.BitVec.{blocks_of}
-use Rattle.data_structures.specs.BitVecLaws.{blocks_hold}
 use Rattle.manifold_records.specs.ListLaws.{length_zeros}
 use Rattle.manifold_records.specs.Written.{zeros}
 use Rattle.contact_range.specs.Recorded.{capacity_of}
+use Rattle.rules.specs.Limits.{most_workers}
 use Rattle.shares.specs.Shares.{workers_of}
-use Rattle.update_pass.specs.AllLaws.{cleared_parts, so_far_none, own_ready, so_far_next, so_far_all, so_far_few, own_places}
+use Rattle.update_pass.specs.AllLaws.{cleared_parts, so_far_none, own_ready, so_far_next, so_far_all, so_far_few}
 use borrow.Author.Rules.{rules}
 use Rattle.update_pass.proofs.all.update_all.Goals as goal
-use Rattle.update_pass.proofs.all.update_all.Goals.{After-load-workers, In-loop-w}
-
-pub load-capacity-requires : goal.load-capacity-requires
-load-capacity-requires c = let right = c.requires.listed.ready.checked.right in omega (arith, right.size)
-
-pub store_zeros-requires : goal.store_zeros-requires
-store_zeros-requires c = let d = c.requires.distance_words in omega (arith, c.load-capacity.ensures)
-
-pub load-workers-requires : goal.load-workers-requires
-load-workers-requires c = let d = c.requires.listed.size in omega arith
-
--- all parts together are the bit words, few of them
-parts : (c : After-load-workers) → (8 * c.blocks-count.result ≡ length c.args.bits.now) × (c.blocks-count.result ≤ 4)
-parts c =
-    let n : c.blocks-count.result ≡ blocks_of (capacity_of c.args.graph.now) = c.blocks-count.ensures ∙ ap blocks_of c.load-capacity.ensures in
-    let h = (blocks_hold (capacity_of c.args.graph.now)).1 in
-    let m = c.requires.listed.ready.checked.right.most in
-    (omega (arith, c.requires.bit_words), omega arith)
-
-pub overflow_mul-end : goal.overflow_mul-end
-overflow_mul-end c = let z = parts c in omega (arith, z.1)
-
-pub slice_bounds-parts-count : goal.slice_bounds-parts-count
-slice_bounds-parts-count c = omega arith
 
 pub loop-w-init : goal.loop-w-init
 loop-w-init c =
     let b : c.blocks-count.result ≡ blocks_of (capacity_of c.args.graph.now) = c.blocks-count.ensures ∙ ap blocks_of c.load-capacity.ensures in
     let n = c.requires.distance_words in
-    let end : 8 * c.blocks-count.result - 0 ≡ length c.args.bits.now = omega (arith, c.requires.bit_words) in
-    let bits = cleared_parts c.args.bits.now (8 * c.blocks-count.result - 0) end c.clear.ensures ∙ ap zeros (end ∙ c.requires.bit_words) in (
+    let end : most_workers * c.blocks-count.result - 0 ≡ length c.args.bits.now = omega (arith, c.requires.bit_words) in
+    let bits = cleared_parts c.args.bits.now (most_workers * c.blocks-count.result - 0) end c.clear.ensures ∙ ap zeros (end ∙ c.requires.bit_words) in (
       search rules,
       so_far_none _ _ _ _ _ c.requires.listed bits
           (c.store_zeros.ensures ∙ ap (λ (k : ℕ). put c.args.distances.now 0 (zeros k)) c.load-capacity.ensures ∙ put_whole c.args.distances.now (zeros _) (length_zeros _ ∙ sym n)),
@@ -52,27 +28,6 @@ loop-w-init c =
       search rules,
       search rules,
     )
-
--- the worker's part lies in the bit words
-own : (c : In-loop-w) → let n = c.blocks-count.result in (c.loop-w.w * n + n ≤ length c.loop-w.bits) × (c.loop-w.w * n + n ≤ 256)
-own c =
-    let l = subst (λ (n : ℕ). c.loop-w.w < n) c.load-workers.ensures c.loop-w-test.true in
-    let o = own_places _ _ _ _ _ c.requires.listed c.loop-w.w l in
-    let n : c.blocks-count.result ≡ blocks_of (capacity_of c.args.graph.now) = c.blocks-count.ensures ∙ ap blocks_of c.load-capacity.ensures in
-    let p = ap (λ (k : ℕ). c.loop-w.w * k) n in
-    (omega (arith, o.few, o.room, c.requires.bit_words, c.loop-w.invariant.3), omega (arith, o.few, o.room, c.requires.bit_words, c.loop-w.invariant.3))
-
-pub overflow_mul-from : goal.overflow_mul-from
-overflow_mul-from c = let o = own c in omega (arith, o.1)
-
-pub overflow_add-to : goal.overflow_add-to
-overflow_add-to c = let o = own c in omega (arith, o.1)
-
-pub offset_bounds-bits-from : goal.offset_bounds-bits-from
-offset_bounds-bits-from c = let o = own c in omega (arith, o.1)
-
-pub slice_bounds-own-count : goal.slice_bounds-own-count
-slice_bounds-own-count c = omega arith
 
 pub update_share-recycled-requires : goal.update_share-recycled-requires
 update_share-recycled-requires c =

@@ -1,6 +1,6 @@
 -- What the loop of `update_pass::all::update_all` keeps.
 use mathlib.Core.Path.{◌≡◌}
-use Prim.Native.Nat.{◌-◌, ◌≤◌}
+use Prim.Native.Nat.{◌≤◌}
 use lib.ListN.{length}
 use Rattle.collider.specs.Views.{plain_settings}
 use Rattle.update_pass.specs.AllLaws.{SoFar}

@@ -1,6 +1,6 @@
 -- What the loop of `update_pass::share::update_share` keeps.
 use mathlib.Core.Path.{◌≡◌}
-use Prim.Native.Nat.{◌-◌, ◌≤◌}
+use Prim.Native.Nat.{◌≤◌}
 use lib.ListN.{length}
 use Rattle.collider.specs.Views.{plain_settings}
 use Rattle.update_pass.specs.Share.{Taken}

@@ -5,7 +5,7 @@ use Prim.Native.Nat.{ℕ, ◌+◌, ◌-◌, ◌*◌}
 use native.Mathlib.Omega.{arith}
 use lib.ListN.{length}
 use Rattle.manifold_records.specs.ListLaws.{length_zeros}
-use Rattle.update_pass.specs.JoinLaws.{part_room, part_length, join_next}
+use Rattle.update_pass.specs.JoinLaws.{part_length, join_next}
 use Rattle.update_pass.specs.Share.{joined_parts}
 use borrow.Author.Rules.{rules}
 use Rattle.update_pass.proofs.standing.join.Goals as goal
@@ -13,26 +13,6 @@ use Rattle.update_pass.proofs.standing.join.Goals as goal
 pub loop-w-init : goal.loop-w-init
 unfolding joined_parts
 loop-w-init c = (search rules, c.requires.2, search rules)
-
-pub overflow_mul-from : goal.overflow_mul-from
-overflow_mul-from c =
-    let r = part_room c.args.count c.args.bits.now c.requires.0 c.loop-w.w c.loop-w-test.true in
-    omega (arith, c.requires.0, c.requires.1)
-
-pub overflow_add-to : goal.overflow_add-to
-overflow_add-to c =
-    let r = part_room c.args.count c.args.bits.now c.requires.0 c.loop-w.w c.loop-w-test.true in
-    omega (arith, c.requires.0, c.requires.1)
-
-pub offset_bounds-bits-from : goal.offset_bounds-bits-from
-offset_bounds-bits-from c =
-    let r = part_room c.args.count c.args.bits.now c.requires.0 c.loop-w.w c.loop-w-test.true in
-    omega (arith, c.requires.0, c.requires.1)
-
-pub slice_bounds-part-count : goal.slice_bounds-part-count
-slice_bounds-part-count c =
-    let r = part_room c.args.count c.args.bits.now c.requires.0 c.loop-w.w c.loop-w-test.true in
-    omega (arith, c.requires.0, c.requires.1)
 
 pub or-requires : goal.or-requires
 or-requires c =
@@ -48,8 +28,3 @@ loop-w-preserved c =
     let from = c.loop-w.w * c.args.count in
     let n : from + c.args.count - from ≡ c.args.count = omega arith in
     (search rules, join_next c.args.count c.args.bits.now c.requires.0 c.loop-w.w _ n c.loop-w.invariant.1 c.or.ensures, search rules)
-
-pub returns : goal.returns
-returns c =
-    let e : c.loop-w.w ≡ 8 = search rules in
-    c.loop-w.invariant.1 ∙ ap (joined_parts c.args.count c.args.bits.now) e

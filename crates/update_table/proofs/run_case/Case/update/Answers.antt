@@ -1,7 +1,6 @@
 -- `update_table::run_case::Case::update` meets its contract: what was tested is what the update asks. Assumes nothing.
-use borrow.Author.Rules.{rules}
+use Rattle.std.proofs.Common.{rules, sym}
 use Rattle.contact_range.specs.RangeLaws.{fitting}
-use Rattle.contact_range.specs.RangeStepLaws.{passed_by}
 use Rattle.proposals.specs.LoadedLaws.{proposed}
 use Rattle.update_table.proofs.run_case.Case.update.Goals as goal
 
@@ -12,7 +11,7 @@ update_record-requires c =
       body_words = search rules;
       proposal_words = search rules;
       record_words = search rules;
-      colliders_fit_lem = passed_by c.colliders_fit.ensures c.if-not-colliders_fit.false;
-      proposed = proposed (passed_by c.proposal_fits.ensures c.if-not-proposal_fits.false);
-      record_fits = fitting _ _ (passed_by c.contact_fits.ensures c.if-not-contact_fits.false);
+      colliders_fit_lem = sym c.if-colliders_fit.ensures;
+      proposed = proposed (sym c.if-proposal_fits.ensures);
+      record_fits = fitting _ _ (sym c.if-contact_fits.ensures);
     }
