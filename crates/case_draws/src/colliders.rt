@@ -109,7 +109,7 @@ fn place_word(case: u32, n: u32, owner: u32, i: u32) -> u32 {
     }
 }
 
-fn collider_word(case: u32, n: u32, i: u32) -> u32 {
+pub fn collider_word(case: u32, n: u32, i: u32) -> u32 {
     let owner = draw(case, slot(10, n));
     match i {
         COLLIDER_PRESENT => all_but_one_in(draw(owner, i), 64),

@@ -107,6 +107,17 @@ pub enum Floats {
     Awkward,
 }
 
+// By their numbers.
+impl From<u32> for Floats {
+    fn from(style: u32) -> Self {
+        match style {
+            0 => Floats::Coarse,
+            1 => Floats::Common,
+            _ => Floats::Awkward,
+        }
+    }
+}
+
 pub fn style(case: u32) -> Floats {
     match draw(case, 1) % 8 {
         0 => Floats::Awkward,
@@ -123,9 +134,9 @@ fn awkward(d: u32) -> u32 {
     }
 }
 
-pub fn float(owner: u32, slot: u32, style: Floats) -> u32 {
+pub fn float<S: Into<Floats>>(owner: u32, slot: u32, style: S) -> u32 {
     let d = draw(owner, slot);
-    match style {
+    match style.into() {
         Floats::Coarse => coarse(d),
         Floats::Common => common(d),
         Floats::Awkward => awkward(d),

@@ -173,7 +173,7 @@ fn manifold_count(owner: u32) -> u32 {
     }
 }
 
-fn proposal_word(case: u32, i: u32) -> u32 {
+pub fn proposal_word(case: u32, i: u32) -> u32 {
     let owner = draw(case, 50);
     let k = past(i, PROPOSAL_MANIFOLDS);
     match i {

@@ -137,7 +137,7 @@ pub fn rule(owner: u32, slot: u32) -> u32 {
 }
 
 // Matching is named by number: the Rust's.
-fn setting_word(case: u32, i: u32) -> u32 {
+pub fn setting_word(case: u32, i: u32) -> u32 {
     let owner = draw(case, 30);
     let d = draw(owner, i);
     match i {

@@ -77,9 +77,39 @@ fn arc_length(a: Side, b: Side, cache: ContactRecyclingCache) -> f32
         .mul_quat(relative.rotation);
     delta.chord_length() * maximum(sweep(a), sweep(b))
 }
+// The recycle block: each test that holds abandons recycling and leaves the loop by its label. A NaN abandons nothing.
+fn recycles(
+    settings: Settings,
+    touching: bool,
+    a: Side,
+    b: Side,
+    cache: Option<ContactRecyclingCache>,
+) -> bool
+    ensures { result ≡ recycles (plain_settings settings) touching (plain_side a) (plain_side b) (cache_of cache) }
+{
+    'recycle: loop {
+        if scaled_recycle(settings) <= 0.0 {
+            break 'recycle false;
+        }
+        let Some(cached) = cache else {
+            break 'recycle false;
+        };
+        if least_squared_dot(a, b, cached) <= settings.recycle_cosine {
+            break 'recycle false;
+        }
+        let tolerance = tolerance_for(settings, touching);
+        let squared = squared_motion(a, b, cached);
+        if squared >= tolerance * tolerance {
+            break 'recycle false;
+        }
+        if arc_length(a, b, cached) >= tolerance - root(squared) {
+            break 'recycle false;
+        }
+        break 'recycle true;
+    }
+}
 
-// The cache, where the pair's contacts are recycled. Each test that holds abandons recycling. A NaN abandons nothing.
-#[tactic(auto, unfolding(rules::specs::Recycling::recycles))]
+// The cache, where the pair's contacts are recycled.
 pub fn recycle(
     settings: Settings,
     touching: bool,
@@ -89,22 +119,11 @@ pub fn recycle(
 ) -> Option<ContactRecyclingCache>
     ensures { result ≡ cond (recycles (plain_settings settings) touching (plain_side a) (plain_side b) (cache_of cache)) cache None }
 {
-    if scaled_recycle(settings) <= 0.0 {
-        return None;
+    if recycles(settings, touching, a, b, cache) {
+        cache
+    } else {
+        None
     }
-    let cached = cache?;
-    if least_squared_dot(a, b, cached) <= settings.recycle_cosine {
-        return None;
-    }
-    let tolerance = tolerance_for(settings, touching);
-    let squared = squared_motion(a, b, cached);
-    if squared >= tolerance * tolerance {
-        return None;
-    }
-    if arc_length(a, b, cached) >= tolerance - root(squared) {
-        return None;
-    }
-    cache
 }
 
 // How far the two bodies have turned and moved since the cache was made: once for a pair.

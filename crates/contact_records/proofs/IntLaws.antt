@@ -1,7 +1,8 @@
 -- Signed numbers as words, in two's complement: one undoes the other. Assumes nothing.
 use Rattle.std.specs.Prelude.{◌≡◌, refl, Bool, true, false, cond, ℕ, suc, ◌-◌, ◌^◌, ◌<◌, ltb, ℤ, pos, negsuc}
-use Rattle.std.proofs.Common.{ap, arith, lt-ltb, le-ltb, ltb-true, ltb-false, SFits, of_z}
+use Rattle.std.proofs.Common.{sym, ap, ◌∙◌, arith, lt-ltb, le-ltb, ltb-true, ltb-false, SFits, to_z, of_z}
 use Rattle.std.specs.Int.{w32}
+use Rattle.std.proofs.lemmas.Int.{to_z-of_z}
 use Rattle.contact_records.specs.Recorded.{int_of}
 use Rattle.contact_records.specs.Written.{int_word}
 
@@ -34,3 +35,7 @@ pub unsigned_word : (z : ℤ) → of_z w32 z ≡ int_word z
 unfolding int_word
 unsigned_word (pos n) = refl
 unsigned_word (negsuc n) = let e : 4294967296 - suc n ≡ 4294967295 - n = omega arith in e
+
+-- and read as a signed number
+pub signed_word : (w : ℕ) → w < 2 ^ 32 → to_z w32 w ≡ int_of w
+signed_word w h = ap (to_z w32) (sym (unsigned_word (int_of w) ∙ word_back w h)) ∙ to_z-of_z w32 (int_of w) (int_fits w)

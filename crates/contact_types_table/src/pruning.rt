@@ -1,4 +1,6 @@
 // Pruning of more points than are stored: the numbers of those that stay. Every third case goes through the call `prune`.
+ghost use Rattle.std.specs.Prelude.{◌≤◌};
+
 use crate::draws::{Kind, draw, number, vector};
 use case_draws::draws::{past, pick, slot};
 use case_draws::manifolds::many_points;
@@ -48,7 +50,9 @@ fn anchor(key: u32, shape: Shape, kind: Kind) -> Vec3 {
 }
 
 // The number of the point that the k-th copies.
-fn copied(shape: Shape, k: u32) -> u32 {
+fn copied(shape: Shape, k: u32) -> u32
+    ensures { result ≤ k }
+{
     match shape {
         Shape::OneCopied => 0,
         Shape::ThreeCopied => k % 3,

@@ -3,7 +3,6 @@ ghost use Rattle.std.specs.Prelude.{◌≡◌, cond, ◌*◌, ◌<◌, length};
 ghost use Rattle.data_structures.specs.BitVec.{marked};
 ghost use Rattle.collider.specs.Views.{plain_settings};
 ghost use Rattle.contact_update.specs.Contact.{ContactReady, OwnUpdated, ContactUpdated};
-ghost use Rattle.contact_update.specs.Updates.{Ready, RecordUpdates};
 
 use crate::input::UpdateInput;
 use crate::record::{Outcome, update_record};
@@ -13,17 +12,6 @@ use data_structures::bit_vec::set;
 use layout::contact::CONTACT_SIZE;
 use layout::proposal::PROPOSAL_SIZE;
 use words::store::store;
-
-// The record's words, lent on as an array. A function of its own: what an array that is made of a part leaves in its row is not followed.
-fn update_words(input: &UpdateInput<'_>, proposal: &[u32], words: &mut [u32]) -> Outcome
-    requires { Ready input.now.colliders.now input.now.bodies.now proposal.now words.old }
-    ensures { RecordUpdates (plain_settings input.now.settings) input.now.colliders.now input.now.bodies.now proposal.now words.old words.new result }
-{
-    let Some(own) = words.as_mut_array::<CONTACT_SIZE>() else {
-        unreachable!()
-    };
-    update_record(input.settings, input.colliders, input.bodies, proposal, own)
-}
 
 // The contact's record and its proposal are lent on, and no other's.
 fn update_own(input: &UpdateInput<'_>, graph: &mut [u32], id: ContactId) -> Outcome
@@ -36,7 +24,7 @@ fn update_own(input: &UpdateInput<'_>, graph: &mut [u32], id: ContactId) -> Outc
     let to = from + PROPOSAL_SIZE;
     let proposal = &input.proposals[from..to];
     let own = &mut graph[at..end];
-    update_words(input, proposal, own)
+    update_record(input.settings, input.colliders, input.bodies, proposal, own)
 }
 
 fn set_if(bits: &mut [u64], index: usize, bit: bool)

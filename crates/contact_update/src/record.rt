@@ -175,8 +175,8 @@ fn skipped() -> Outcome
     }
 }
 
-// Not lent an `UpdateInput`: of the proposals it reads the contact's own alone.
-pub fn update_record(
+// Rule 1, then the others.
+fn update_present(
     settings: Settings,
     colliders: &[u32],
     bodies: &[u32],
@@ -192,4 +192,21 @@ pub fn update_record(
         return skipped();
     };
     update_between(settings, c1, c2, bodies, proposal, words)
+}
+
+// Not lent an `UpdateInput`: of the proposals it reads the contact's own alone.
+pub fn update_record(
+    settings: Settings,
+    colliders: &[u32],
+    bodies: &[u32],
+    proposal: &[u32],
+    words: &mut [u32],
+) -> Outcome
+    requires { Ready colliders.now bodies.now proposal.now words.old }
+    ensures { RecordUpdates (plain_settings settings) colliders.now bodies.now proposal.now words.old words.new result }
+{
+    let Some(own) = words.as_mut_array::<CONTACT_SIZE>() else {
+        unreachable!()
+    };
+    update_present(settings, colliders, bodies, proposal, own)
 }

@@ -5,7 +5,7 @@ ghost use Rattle.rules.specs.Recycling.{recycled_manifold};
 ghost use Rattle.collider.specs.Views.{plain_side};
 ghost use Rattle.manifold_records.specs.Counts.{Counted};
 ghost use Rattle.manifold_records.specs.Recorded.{point_at, points_at, manifolds_at};
-ghost use Rattle.layout.specs.Contact.{contact_manifolds, contact_speculative_distance, pair_static1};
+ghost use Rattle.layout.specs.Contact.{contact_manifolds, contact_size, contact_speculative_distance, pair_static1};
 ghost use Rattle.layout.specs.Manifold.{points_size};
 ghost use Rattle.layout.specs.Point.{point_size};
 ghost use Rattle.rules.specs.Limits.{stored_points};
@@ -71,12 +71,7 @@ fn recycle_manifolds(words: &mut [u32; CONTACT_SIZE], motion: Motion)
 
 // And the static marks, and the speculative distance.
 #[tactic(auto, using(crate::specs::ManifoldTurnLaws::recycled_stored))]
-pub fn recycle_words(
-    words: &mut [u32; CONTACT_SIZE],
-    a: Side,
-    b: Side,
-    cache: ContactRecyclingCache,
-)
+fn recycle_own(words: &mut [u32; CONTACT_SIZE], a: Side, b: Side, cache: ContactRecyclingCache)
     requires { Counted words.old contact_manifolds }
     ensures { words.new ≡ put (put (manifolds_put (map (recycled_manifold (plain_side a) (plain_side b) (cached_of cache)) (manifolds_at words.old contact_manifolds)) (contact_manifolds + 1) words.old) pair_static1 (mark_word a.is_static ∷ mark_word b.is_static ∷ [])) contact_speculative_distance (0 ∷ []) }
 {
@@ -85,4 +80,14 @@ pub fn recycle_words(
     let marks = [mark_word(a.is_static), mark_word(b.is_static)];
     store_words(words, PAIR_STATIC1, &marks);
     store(words, CONTACT_SPECULATIVE_DISTANCE, 0);
+}
+
+pub fn recycle_words(words: &mut [u32], a: Side, b: Side, cache: ContactRecyclingCache)
+    requires { (length words.old ≡ contact_size) × Counted words.old contact_manifolds }
+    ensures { words.new ≡ put (put (manifolds_put (map (recycled_manifold (plain_side a) (plain_side b) (cached_of cache)) (manifolds_at words.old contact_manifolds)) (contact_manifolds + 1) words.old) pair_static1 (mark_word a.is_static ∷ mark_word b.is_static ∷ [])) contact_speculative_distance (0 ∷ []) }
+{
+    let Some(own) = words.as_mut_array::<CONTACT_SIZE>() else {
+        unreachable!()
+    };
+    recycle_own(own, a, b, cache);
 }

@@ -6,7 +6,7 @@ ghost use Rattle.collider.specs.Views.{plain_settings, plain_collider, plain_sid
 ghost use Rattle.manifold_records.specs.Counts.{Counted};
 ghost use Rattle.manifold_records.specs.Recorded.{manifolds_at};
 ghost use Rattle.manifold_matching.specs.Matched.{manifolds_from, OldManifolds};
-ghost use Rattle.layout.specs.Contact.{contact_flags, contact_manifolds};
+ghost use Rattle.layout.specs.Contact.{contact_flags, contact_manifolds, contact_size};
 ghost use Rattle.layout.specs.Proposal.{proposal_size};
 ghost use Rattle.rules.specs.Limits.{pair_manifolds};
 ghost use Rattle.contact_records.specs.StateViews.{flags_of, cached_of};
@@ -91,7 +91,7 @@ fn renew_from(
 }
 
 // The old manifolds are copied first. Most pairs have one at most, and then no more is copied.
-pub fn renew_manifolds(
+fn renew_own(
     words: &mut [u32; CONTACT_SIZE],
     settings: Settings,
     filtering: Filtering,
@@ -110,6 +110,22 @@ pub fn renew_manifolds(
     let mut all = [0u32; ALL_MANIFOLDS_SIZE];
     load_words(words, CONTACT_FIRST_MANIFOLD, &mut all);
     renew_from(words, &all, old, settings, filtering, modify, proposal)
+}
+
+pub fn renew_manifolds(
+    words: &mut [u32],
+    settings: Settings,
+    filtering: Filtering,
+    modify: bool,
+    proposal: &[u32],
+) -> u32
+    requires { (length words.old ≡ contact_size) × Counted words.old contact_manifolds × (length proposal.now ≡ proposal_size) × Proposed proposal.now 0 }
+    ensures { ManifoldsRenewed (plain_settings settings) (manifolds_at words.old contact_manifolds) (remaining filtering.step_time (plain_side filtering.a) (plain_side filtering.b) (plain_surface filtering.surface) modify (hook_at proposal.now 0) (proposal_at proposal.now 0)) words.old words.new result }
+{
+    let Some(own) = words.as_mut_array::<CONTACT_SIZE>() else {
+        unreachable!()
+    };
+    renew_own(own, settings, filtering, modify, proposal)
 }
 
 // Rules 6 and 12, from the surface and the two counts of manifolds.
@@ -145,11 +161,21 @@ fn store_marks(words: &mut [u32; CONTACT_SIZE], flags: ContactPairFlags, change:
     store(words, CONTACT_SPECULATIVE_DISTANCE, 0);
 }
 
-// A pair's own words before its manifolds.
 #[tactic(auto, using(crate::specs::StoreLaws::renewal_stored))]
-pub fn store_renewal(words: &mut [u32; CONTACT_SIZE], renewal: Renewal)
+fn store_own(words: &mut [u32; CONTACT_SIZE], renewal: Renewal)
     ensures { words.new ≡ put words.old contact_flags (flags_words (flags_of renewal.flags) ++ renewal.change ∷ 0 ∷ cache_words (Some (cached_of renewal.cache))) }
 {
     store_marks(words, renewal.flags, renewal.change);
     store_cache(words, CONTACT_CACHE, Some(renewal.cache));
+}
+
+// A pair's own words before its manifolds.
+pub fn store_renewal(words: &mut [u32], renewal: Renewal)
+    requires { length words.old ≡ contact_size }
+    ensures { words.new ≡ put words.old contact_flags (flags_words (flags_of renewal.flags) ++ renewal.change ∷ 0 ∷ cache_words (Some (cached_of renewal.cache))) }
+{
+    let Some(own) = words.as_mut_array::<CONTACT_SIZE>() else {
+        unreachable!()
+    };
+    store_own(own, renewal);
 }

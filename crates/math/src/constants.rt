@@ -12,3 +12,5 @@ pub const TENTH: f32 = 0.1;
 pub const TINY: f32 = 1e-6;
 
 pub const HALF: f32 = 0.5;
+
+pub const TWO: f32 = 2.0;

@@ -3,7 +3,7 @@ use Rattle.std.specs.Prelude.{◌≡◌, refl, ℕ, suc, ◌+◌, ◌≤◌, ◌
 use Rattle.std.proofs.Common.{ap, ◌∙◌, add-one, arith, drop_of_length-le, drop-cons}
 use Rattle.text.specs.Text.{word}
 use Rattle.text.specs.Answers.{Stands, ByteRead, taken_word, WordRead}
-use Rattle.text.specs.TextLaws.{expect_read, expect_not}
+use Rattle.text.specs.TextLaws.{expect_same, expect_read, expect_not}
 use Rattle.prune_listing.specs.Listing.{field, line_end}
 use Rattle.prune_listing.specs.Answers.{taken_end}
 
@@ -19,10 +19,18 @@ field_end xs at h = no_field xs at (λ s. let l = s.0 in omega arith)
 pub field_other : (xs : List ℕ) (at : ℕ) → at < length xs → (get_or xs at 0 ≡ 9 → ⊥) → field (drop at xs) ≡ None
 field_other xs at h e = no_field xs at (λ s. e s.1)
 
-pub field_tab : (xs : List ℕ) (at start : ℕ) (r : Option ℕ) → ByteRead xs at 9 (Some start) → WordRead xs start r
+pub field_tab : (xs : List ℕ) (at : ℕ) (r : Option ℕ) → at < length xs → get_or xs at 0 ≡ 9 → word (drop (at + 1) xs) ≡ taken_word r (drop (at + 1 + 8) xs)
     → field (drop at xs) ≡ taken_word r (drop (at + 9) xs)
 unfolding field
-field_tab xs at start r s w =
+field_tab xs at r h e w =
+    let f : at + 1 + 8 ≡ at + 9 = omega arith in
+    expect_same 9 word xs at h e ∙ w ∙ ap (λ (n : ℕ). taken_word r (drop n xs)) f
+
+-- as the reader's contracts say it
+pub field_read : (xs : List ℕ) (at start : ℕ) (r : Option ℕ) → ByteRead xs at 9 (Some start) → WordRead xs start r
+    → field (drop at xs) ≡ taken_word r (drop (at + 9) xs)
+unfolding field
+field_read xs at start r s w =
     let f : start + 8 ≡ at + 9 = omega (arith, s.1) in
     expect_read 9 word xs at start s ∙ w.read ∙ ap (λ (n : ℕ). taken_word r (drop n xs)) f
 
@@ -44,6 +52,6 @@ line_end_at xs at h = rw (drop-cons xs at 0 h, add-one) (picked (eqb (get_or xs 
 
 -- ---- for the search, by function
 
-pub ruleset field_laws = (no_field, field_tab)
+pub ruleset field_laws = (no_field, field_read)
 
 pub ruleset end_laws = (line_end_past, line_end_at)

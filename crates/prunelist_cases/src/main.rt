@@ -2,7 +2,8 @@
 // tests/prunelist_cases.py made it, and the files of data/, from the specification alone ('Prune listing', 'Matching and pruning').
 #![tactic(auto)]
 
-use prune_answer::output::print_read;
+use prune_answer::answer::ANSWER_LENGTH;
+use prune_answer::output::read_answer;
 use std::fs::File;
 use std::io;
 use std::rt::Files;
@@ -31,14 +32,16 @@ const NAMES: [&str; 21] = [
     "too_long",
 ];
 
-// A file that cannot be opened is named on standard error, and passed over.
+// A file that cannot be opened is named on standard error, and passed over. A name is printed once its file is read.
 fn print_case<R: Files + AllocGlobal + Print + Eprint>(rt: &R, name: &str) -> io::Result<()> {
     let file = match File::open(rt, name) {
         Ok(file) => file,
         Err(e) => return eprintln!(rt; "{name}: {e}"),
     };
+    let mut lines = [0u8; ANSWER_LENGTH];
+    let written = read_answer(rt.alloc(), file, &mut lines)?;
     println!(rt; "{name}")?;
-    print_read(rt.alloc(), file, &mut io::writer(rt))
+    rt.write_all(&lines[..written])
 }
 
 fn main(rt: HostRuntime) -> io::Result<()> {

@@ -58,17 +58,21 @@ struct Stack {
 }
 
 impl Stack {
-    fn start() -> Result<Self, Refusal> {
-        let mut stack = Stack {
+    fn new() -> Self {
+        Stack {
             colliders: [0; COLLIDERS_LENGTH],
             bodies: [0; BODIES_LENGTH],
             proposals: [0; PROPOSALS_LENGTH],
             graph: [0; GRAPH_LENGTH],
             tally: Tally::default(),
-        };
-        lay_out(&mut stack.graph, CAPACITY)?;
-        fill_bodies(&mut stack.bodies);
-        Ok(stack)
+        }
+    }
+
+    // Where it stands: the rows are large, and a `Result` of them would be a second copy.
+    fn start(&mut self) -> Result<(), Refusal> {
+        lay_out(&mut self.graph, CAPACITY)?;
+        fill_bodies(&mut self.bodies);
+        Ok(())
     }
 
     fn run(&mut self) -> Result<(), Refusal> {
@@ -131,10 +135,10 @@ fn print_refused<W: Write>(out: &mut W, refusal: Refusal) -> io::Result<()> {
 
 // A line for every ten steps.
 pub fn print_stack<W: Write>(out: &mut W) -> io::Result<()> {
-    let mut stack = match Stack::start() {
-        Ok(stack) => stack,
-        Err(refusal) => return print_refused(out, refusal),
-    };
+    let mut stack = Stack::new();
+    if let Err(refusal) = stack.start() {
+        return print_refused(out, refusal);
+    }
     for step in 0..300 {
         if let Err(refusal) = stack.play(step) {
             return print_refused(out, refusal);

@@ -26,22 +26,26 @@ impl fmt::Display for Difference {
     }
 }
 
-// The step by every share, from the same words: what the first leaves, and the first difference from it.
+// The step by every share, from the same words: what the first leaves is lent, and the first difference from it is answered.
 pub fn run_all(
     world: &World,
     graph: &[u32; GRAPH_LENGTH],
     step: u32,
     key: u32,
-) -> (Left, Option<Difference>) {
-    let first = world.run(graph, 0, key);
-    let difference = (1..SHARES).find_map(|share| {
-        let (row, place) = first.differs(&world.run(graph, share, key))?;
-        Some(Difference {
-            step,
-            share,
-            row,
-            place,
-        })
-    });
-    (first, difference)
+    first: &mut Left,
+) -> Option<Difference> {
+    let mut after = Left::before(graph);
+    world.run(graph, 0, key, first);
+    for share in 1..SHARES {
+        world.run(graph, share, key, &mut after);
+        if let Some((row, place)) = first.differs(&after) {
+            return Some(Difference {
+                step,
+                share,
+                row,
+                place,
+            });
+        }
+    }
+    None
 }

@@ -34,6 +34,14 @@ impl Left {
         }
     }
 
+    // As before a step, where it stands: the rows are large.
+    pub fn begin(&mut self, graph: &[u32; GRAPH_LENGTH]) {
+        self.graph.copy_from_slice(graph);
+        self.events.fill(UNWRITTEN);
+        self.changes.fill(UNWRITTEN);
+        self.distances.fill(UNWRITTEN);
+    }
+
     // The refusal's number or 0, and the numbers of events, changes and contacts recycled.
     fn answer_words(&self) -> [u32; 4] {
         match self.answer {

@@ -49,8 +49,10 @@ impl Counts {
 
 // The counts, and the first difference.
 fn play_list(key: u32) -> (Counts, Option<Difference>) {
-    let mut world = World::new(key);
+    let mut world = World::new();
+    world.start(key);
     let mut graph = [0; GRAPH_LENGTH];
+    let mut left = Left::before(&graph);
     let mut counts = Counts::default();
     let mut difference = None;
     let _ = lay_out(&mut graph, CAPACITY);
@@ -60,7 +62,7 @@ fn play_list(key: u32) -> (Counts, Option<Difference>) {
         write_impulses(&mut graph, own);
         world.change(&graph, own);
         let count = listed(&graph);
-        let (left, found) = run_all(&world, &graph, step, own);
+        let found = run_all(&world, &graph, step, own, &mut left);
         counts.add_step(&left, count);
         difference = difference.or(found);
         graph = left.graph;

@@ -205,20 +205,23 @@ pub struct World {
 }
 
 impl World {
-    pub fn new(key: u32) -> Self {
-        let mut world = World {
+    pub fn new() -> Self {
+        World {
             settings: [0; SETTINGS_LENGTH],
             colliders: [0; COLLIDERS_LENGTH],
             bodies: [0; BODIES_LENGTH],
             proposals: [0; PROPOSALS_LENGTH],
-        };
-        fill(&mut world.settings, 0, SETTINGS_LENGTH as u32, |i| {
+        }
+    }
+
+    // Drawn where it stands: the rows are large.
+    pub fn start(&mut self, key: u32) {
+        fill(&mut self.settings, 0, SETTINGS_LENGTH as u32, |i| {
             setting_word(key, i)
         });
         for n in 0..DRAWN {
-            world.fill(key, n);
+            self.fill(key, n);
         }
-        world
     }
 
     // A collider and its body.
@@ -247,8 +250,8 @@ impl World {
     }
 
     // A step by one of the nine shares, from the graph that the last step left.
-    pub fn run(&self, graph: &[u32; GRAPH_LENGTH], share: u32, key: u32) -> Left {
-        let mut left = Left::before(graph);
+    pub fn run(&self, graph: &[u32; GRAPH_LENGTH], share: u32, key: u32, left: &mut Left) {
+        left.begin(graph);
         let shares = shares_of(graph, share, draw(key, slot(800, share)));
         let mut bits = rubbish(draw(key, slot(900, share)));
         let input = StepInput {
@@ -266,6 +269,5 @@ impl World {
             &mut left.changes,
             &mut left.distances,
         );
-        left
     }
 }

@@ -1,6 +1,7 @@
 // The constraint changes that a visit writes, five words each: kind, id, bodies, change of the count.
 ghost use Rattle.std.specs.Prelude.{◌≡◌, ◌+◌, ◌*◌, ◌≤◌, length};
 ghost use Rattle.rules.specs.Status.{changes_for};
+ghost use Rattle.layout.specs.Contact.{contact_size};
 ghost use Rattle.layout.specs.Change.{change_size};
 ghost use Rattle.contact_records.specs.Recorded.{pair_at};
 ghost use Rattle.status_pass.specs.EventsAndChanges.{change_words};
@@ -71,15 +72,16 @@ fn change_words(
 pub fn record_change(
     changes: &mut [u32],
     n: usize,
-    words: &[u32; CONTACT_SIZE],
+    words: &[u32],
     id: ContactId,
     v: Verdict,
 ) -> usize
-    requires { n * change_size + change_size ≤ length changes.old }
+    requires { (length words.now ≡ contact_size) × (n * change_size + change_size ≤ length changes.old) }
     ensures { ChangesWritten changes.old n (changes_for (plain_verdict v) (pair_at words.now 0 id.0)) changes.new result }
 {
-    let Some(kind) = change_of(words, v) else {
+    let own = words.as_array().unwrap();
+    let Some(kind) = change_of(own, v) else {
         return n;
     };
-    append(changes, n, change_words(words, id, kind))
+    append(changes, n, change_words(own, id, kind))
 }

@@ -1,6 +1,7 @@
 // The contact events that a visit writes, eight words each: kind, id, colliders, bodies.
 ghost use Rattle.std.specs.Prelude.{◌≡◌, ◌+◌, ◌*◌, ◌≤◌, length};
 ghost use Rattle.rules.specs.Status.{events_for};
+ghost use Rattle.layout.specs.Contact.{contact_size};
 ghost use Rattle.layout.specs.Event.{event_size};
 ghost use Rattle.contact_records.specs.Recorded.{names_at, pair_at};
 ghost use Rattle.status_pass.specs.EventsAndChanges.{event_words};
@@ -58,18 +59,13 @@ fn event_words(words: &[u32; CONTACT_SIZE], id: ContactId, kind: EventKind) -> [
 }
 
 // n events are written already. Answers how many are then.
-pub fn record_event(
-    events: &mut [u32],
-    n: usize,
-    words: &[u32; CONTACT_SIZE],
-    id: ContactId,
-    v: Verdict,
-) -> usize
-    requires { n * event_size + event_size ≤ length events.old }
+pub fn record_event(events: &mut [u32], n: usize, words: &[u32], id: ContactId, v: Verdict) -> usize
+    requires { (length words.now ≡ contact_size) × (n * event_size + event_size ≤ length events.old) }
     ensures { EventsWritten events.old n (events_for (plain_verdict v) (pair_at words.now 0 id.0)) events.new result }
 {
-    let Some(kind) = event_of(words, v) else {
+    let own = words.as_array().unwrap();
+    let Some(kind) = event_of(own, v) else {
         return n;
     };
-    append(events, n, event_words(words, id, kind))
+    append(events, n, event_words(own, id, kind))
 }

@@ -1,8 +1,10 @@
 // Which case of the status pass a contact meets: the first that holds.
+ghost use Rattle.std.specs.Prelude.{◌≡◌, length};
+ghost use Rattle.layout.specs.Contact.{contact_size};
 ghost use Rattle.status_pass.specs.Verdicts.{VerdictIs};
 
 use contact_records::state::load_flags;
-use layout::contact::{CONTACT_COUNT_CHANGE, CONTACT_FLAGS, CONTACT_SIZE};
+use layout::contact::{CONTACT_COUNT_CHANGE, CONTACT_FLAGS};
 use words::load::load;
 
 #[derive(Clone, Copy, PartialEq, Eq, Debug)]
@@ -18,7 +20,8 @@ pub enum Verdict {
     Persists,
 }
 
-pub fn verdict_of(words: &[u32; CONTACT_SIZE]) -> Verdict
+pub fn verdict_of(words: &[u32]) -> Verdict
+    requires { length words.now ≡ contact_size }
     ensures { VerdictIs words.now result }
 {
     let f = load_flags(words, CONTACT_FLAGS);

@@ -54,7 +54,7 @@ pub fn visit(
 {
     let at = contact_at(graph, id);
     let end = at + CONTACT_SIZE;
-    let own = graph[at..end].as_array().unwrap();
+    let own = &graph[at..end];
     let v = verdict_of(own);
     let e = record_event(events, counts.events, own, id, v);
     let c = record_change(changes, counts.changes, own, id, v);

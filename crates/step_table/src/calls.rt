@@ -87,7 +87,8 @@ impl List {
 
     // In a graph that has the length for the capacity.
     pub fn print<W: Write>(&self, out: &mut W, graph: &mut [u32]) -> io::Result<()> {
-        let mut given = Given::new(self.colliders, self.key);
+        let mut given = Given::new();
+        given.start(self.colliders, self.key);
         let mut written = Written::new();
         let _ = lay_out(graph, self.capacity);
         for n in 0..call_count(self.key) {

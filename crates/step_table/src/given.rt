@@ -31,18 +31,20 @@ pub struct Given {
 }
 
 impl Given {
-    // With so many colliders, and bodies.
-    pub fn new(count: u32, key: u32) -> Self {
-        let mut given = Given {
+    pub fn new() -> Self {
+        Given {
             settings: [0; SETTINGS_LENGTH],
             colliders: [0; COLLIDERS_LENGTH],
             bodies: [0; BODIES_LENGTH],
             proposals: [0; PROPOSALS_LENGTH],
             shares: [0; SHARES_LENGTH],
-        };
-        fill_settings(&mut given.settings, key);
-        given.fill_all(count, key);
-        given
+        }
+    }
+
+    // With so many colliders, and bodies. Where it stands: the rows are large.
+    pub fn start(&mut self, count: u32, key: u32) {
+        fill_settings(&mut self.settings, key);
+        self.fill_all(count, key);
     }
 
     // A collider and its body.

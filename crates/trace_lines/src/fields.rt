@@ -50,24 +50,20 @@ pub fn read_kind(text: &[u8], at: usize, kind: Kind) -> Option<Checked<u32>>
     ensures { FieldReadAt (kind_of kind) text.now at result }
 {
     let start = expect(text, at, b'\t')?;
-    match kind {
-        Kind::Float => {
-            let value = read_word(text, start)?;
-            Some(Checked {
-                value,
-                next: start + 8,
-                fits: true,
-            })
-        }
-        _ => {
-            let number = read_decimal(text, start)?;
-            Some(Checked {
-                value: number.value,
-                next: number.next,
-                fits: kind.fits(number.value),
-            })
-        }
+    if let Kind::Float = kind {
+        let value = read_word(text, start)?;
+        return Some(Checked {
+            value,
+            next: start + 8,
+            fits: true,
+        });
     }
+    let number = read_decimal(text, start)?;
+    Some(Checked {
+        value: number.value,
+        next: number.next,
+        fits: kind.fits(number.value),
+    })
 }
 
 // A tab and a dash.

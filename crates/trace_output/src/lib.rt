@@ -21,7 +21,7 @@ use trace_player::player::Player;
 use trace_printing::lines::PRINTED_SIZE;
 
 // A trace that is longer is not played.
-const LONGEST_TRACE: usize = 65536;
+pub const LONGEST_TRACE: usize = 65536;
 
 // One byte more than is played.
 const MOST_READ: u64 = LONGEST_TRACE as u64 + 1;
@@ -85,7 +85,7 @@ impl Lent {
 }
 
 // A line has a byte at least, so that as many calls as the trace has bytes are enough.
-fn print_trace<W: Write>(out: &mut W, trace: &[u8]) -> io::Result<()> {
+pub fn print_trace<W: Write>(out: &mut W, trace: &[u8]) -> io::Result<()> {
     let mut lent = Lent::new();
     let _ = lay_out(&mut lent.graph, CAPACITY as u32);
     let mut player = Player::at(0);

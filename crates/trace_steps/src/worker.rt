@@ -7,20 +7,21 @@ ghost use Rattle.contact_range.specs.Recorded.{capacity_of};
 ghost use Rattle.update_pass.specs.Shared.{active_of};
 ghost use Rattle.trace_rules.specs.Play.{shares_of};
 
-use crate::row::store_part;
 use contact_graph::lay_out::clear;
 use layout::graph::{GRAPH_LIST, GRAPH_LISTED};
 use layout::shares::{SHARES_COUNTS, SHARES_ENTRIES, SHARES_WORKERS};
 use words::load::load;
 
-// The worker's contacts.
-#[tactic(auto, using(crate::specs::ActiveLaws::list_places, crate::specs::ActiveLaws::active_part))]
+// The worker's contacts, word by word: a copy of a length known only at run time would be a call of memmove, which a caller in C would have to bring.
+#[tactic(auto, using(crate::specs::ActiveLaws::list_places))]
 fn list_active(graph: &[u32], shares: &mut [u32])
     requires { Checked graph.now × (length shares.old ≡ shares_length (capacity_of graph.now)) }
     ensures { shares.new ≡ put shares.old shares_entries (active_of graph.now) }
 {
-    let listed = load(graph, GRAPH_LISTED);
-    store_part(shares, SHARES_ENTRIES, graph, GRAPH_LIST, listed);
+    let listed = load::<usize>(graph, GRAPH_LISTED);
+    for p in 0..listed {
+        shares[SHARES_ENTRIES + p] = graph[GRAPH_LIST + p];
+    }
 }
 
 // Every word of the row.

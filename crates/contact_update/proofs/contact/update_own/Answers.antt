@@ -13,8 +13,8 @@ use Rattle.contact_update.proofs.contact.update_own.Goals as goal
 pub contact_at-at-requires : goal.contact_at-at-requires
 contact_at-at-requires c = (c.requires.checked.right, standing_below c.requires.checked.range _ c.requires.standing)
 
-pub update_words-requires : goal.update_words-requires
-update_words-requires c =
+pub update_record-requires : goal.update_record-requires
+update_record-requires c =
     let x = c.args in
     let from = x.id.0 * proposal_size in
     let at = c.contact_at-at.result in
@@ -28,4 +28,4 @@ returns c =
     let from = x.id.0 * proposal_size in
     let at = c.contact_at-at.result in
     let p = lent_part x.input.now.proposals.now from (from + proposal_size - from) proposal_size (omega arith) in
-    own_updated _ c.requires _ _ _ _ p refl c.update_words.ensures c.contact_at-at.ensures.place (let e : at + contact_size - at ≡ contact_size = omega arith in e)
+    own_updated _ c.requires _ _ _ _ p refl c.update_record.ensures c.contact_at-at.ensures.place (let e : at + contact_size - at ≡ contact_size = omega arith in e)

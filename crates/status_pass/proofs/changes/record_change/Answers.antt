@@ -3,8 +3,12 @@ use Rattle.status_pass.specs.ListedLaws.{change_none, change_one}
 use Rattle.status_pass.proofs.changes.record_change.Goals as goal
 
 pub returns-in_default : goal.returns-in_default
-returns-in_default c = change_none c.args.words.now c.args.id.0 c.change_of.ensures c.args.changes.now c.args.n c.in_default.is
+returns-in_default c =
+    let own = rw c.unwrap-own.ensures at c.as_array.ensures.cases in
+    change_none c.args.words.now c.args.id.0 (rw own.same at c.change_of.ensures) c.args.changes.now c.args.n c.in_default.is
 
 pub returns : goal.returns
 returns c =
-    change_one c.args.words.now c.args.id.0 c.change_of.ensures c.args.changes.now c.args.n c.in-Some.is (rw c.change_words.ensures at c.append.ensures.stored) c.append.ensures.count
+    let own = rw c.unwrap-own.ensures at c.as_array.ensures.cases in
+    let words = rw own.same at c.change_words.ensures in
+    change_one c.args.words.now c.args.id.0 (rw own.same at c.change_of.ensures) c.args.changes.now c.args.n c.in-Some.is (rw words at c.append.ensures.stored) c.append.ensures.count

@@ -3,8 +3,12 @@ use Rattle.status_pass.specs.ListedLaws.{event_none, event_one}
 use Rattle.status_pass.proofs.events.record_event.Goals as goal
 
 pub returns-in_default : goal.returns-in_default
-returns-in_default c = event_none c.args.words.now c.args.id.0 c.event_of.ensures c.args.events.now c.args.n c.in_default.is
+returns-in_default c =
+    let own = rw c.unwrap-own.ensures at c.as_array.ensures.cases in
+    event_none c.args.words.now c.args.id.0 (rw own.same at c.event_of.ensures) c.args.events.now c.args.n c.in_default.is
 
 pub returns : goal.returns
 returns c =
-    event_one c.args.words.now c.args.id.0 c.event_of.ensures c.args.events.now c.args.n c.in-Some.is (rw c.event_words.ensures at c.append.ensures.stored) c.append.ensures.count
+    let own = rw c.unwrap-own.ensures at c.as_array.ensures.cases in
+    let words = rw own.same at c.event_words.ensures in
+    event_one c.args.words.now c.args.id.0 (rw own.same at c.event_of.ensures) c.args.events.now c.args.n c.in-Some.is (rw words at c.append.ensures.stored) c.append.ensures.count

@@ -4,5 +4,5 @@ use Rattle.trace_lines.specs.Items.{kind_of}
 use Rattle.trace_lines.specs.FieldLaws.{float_read}
 use Rattle.trace_lines.proofs.fields.read_kind.Goals as goal
 
-pub returns-in_ok-value-in-Float : goal.returns-in_ok-value-in-Float
-returns-in_ok-value-in-Float c = float_read _ _ _ _ c.in_ok-start.ensures _ (ap kind_of c.in-Float.is) c.in_ok-value-in-Float.ensures
+pub returns-in-Float : goal.returns-in-Float
+returns-in-Float c = float_read _ _ _ _ c.in_ok-start.ensures _ (ap kind_of c.in-Float.is) c.in_ok-value.ensures

@@ -1,4 +1,4 @@
--- `contact_update::record::update_record` meets its contract. Assumes nothing.
+-- `contact_update::record::update_present` meets its contract. Assumes nothing.
 use mathlib.Core.Path.{sym, ap, ◌∙◌}
 use native.Mathlib.Omega.{arith}
 use Rattle.collider.specs.Recorded.{collider_at}
@@ -7,8 +7,8 @@ use Rattle.contact_records.specs.Recorded.{pair_at}
 use Rattle.contact_update.specs.After.{record_updated}
 use Rattle.contact_update.specs.BranchLaws.{updates_by, skipped_updates, first_absent, second_absent, both_present, body_below}
 use Rattle.contact_update.specs.RecordReadLaws.{counted_of}
-use Rattle.contact_update.proofs.record.update_record.Goals as goal
-use Rattle.contact_update.proofs.record.update_record.Goals.{in_default-via-in-Some+in_default, in_default-via-in_default}
+use Rattle.contact_update.proofs.record.update_present.Goals as goal
+use Rattle.contact_update.proofs.record.update_present.Goals.{in_default-via-in-Some+in_default, in_default-via-in_default}
 
 pub returns-in_default : goal.returns-in_default
 unfolding record_updated

@@ -1,9 +1,9 @@
--- `contact_update::renewal::renew_manifolds` meets its contract: the copy has the old manifolds. Assumes nothing.
+-- `contact_update::renewal::renew_own` meets its contract: the copy has the old manifolds. Assumes nothing.
 use native.Mathlib.Omega.{arith}
 use Rattle.layout.specs.Contact.{contact_manifolds}
 use Rattle.layout.specs.Manifold.{manifold_size, all_manifolds_size}
 use Rattle.contact_update.specs.MatchTurnLaws.{olds_counted, renewed_read}
-use Rattle.contact_update.proofs.renewal.renew_manifolds.Goals as goal
+use Rattle.contact_update.proofs.renewal.renew_own.Goals as goal
 
 pub renew_from-requires : goal.renew_from-requires
 renew_from-requires c =
