@@ -188,7 +188,10 @@ fn update_present(
 {
     let n1 = load::<u32>(words, CONTACT_COLLIDER1);
     let n2 = load::<u32>(words, CONTACT_COLLIDER2);
-    let (Some(c1), Some(c2)) = (load_collider(colliders, n1), load_collider(colliders, n2)) else {
+    let Some(c1) = load_collider(colliders, n1) else {
+        return skipped();
+    };
+    let Some(c2) = load_collider(colliders, n2) else {
         return skipped();
     };
     update_between(settings, c1, c2, bodies, proposal, words)

@@ -1,11 +1,12 @@
 -- The whole number nearest to a root: on which side of it a guess is, what one step makes of the guess, how many more there can be,
 -- and how the number is had from the root of four times m, cut to a whole number. Assumes nothing.
-use Rattle.std.proofs.Common.{◌≡◌, ℕ, zero, suc, ◌+◌, ◌-◌, ◌*◌, ◌/◌, ◌^◌, ◌<◌, ◌≤◌, Bool, true, false, cond, not, T, ltb, leb, sym, refl, ap, ◌∙◌, subst, le_of_eq, lt_of_le_of_lt, le_of_lt, add_assoc, lt_irrefl, suc-mul, add-mul, lt_of_not-le, mul-suc, mul-add, arith, ltb→lt, leb→le, nltb→le}
+use Rattle.std.proofs.Common.{◌≡◌, ℕ, zero, suc, ◌+◌, ◌-◌, ◌*◌, ◌/◌, ◌^◌, ◌<◌, ◌≤◌, Bool, true, false, cond, not, T, ltb, leb, sym, refl, ap, ◌∙◌, subst, le_trans, le_of_eq, lt_of_le_of_lt, le_of_lt, add_assoc, lt_irrefl, suc-mul, add-mul, lt_of_not-le, mul-suc, mul-add, add-one, arith, ltb→lt, leb→le, nltb→le}
+use mir.Val.{bool_byte}
 use lib.Ieee.{binary32, to_bits}
 use lib.Dec.{nleb→lt}
 use Rattle.math.specs.Root.{IsRoot, IsNearest, floor_root}
 use Rattle.math.specs.Estimate.{estimate, less, exponent, held, guess, stepped}
-use Rattle.math.proofs.RootedLaws.{sq_lt, floor_root_is}
+use Rattle.math.proofs.RootedLaws.{sq_mono, sq_lt, floor_root_is}
 
 -- ---- squares
 next_square : (a : ℕ) → suc a * suc a ≡ a * a + (a + suc a)
@@ -18,6 +19,13 @@ odd_square : (a : ℕ) → suc (a + a) * suc (a + a) ≡ 4 * (a * a + a) + 1
 odd_square a = let e = next_square (a + a) in let d = double_square a in omega arith
 
 -- ---- a guess
+pub held_is : (g r : ℕ) → (2 ^ 24 < g → r ≡ 2 ^ 24) → (g ≤ 2 ^ 24 → r ≡ g) → r ≡ held g
+held_is g r over under = go (leb g (2 ^ 24)) (leb→le g (2 ^ 24)) (nleb→lt g (2 ^ 24))
+  where
+    go : (b : Bool) → (T b → g ≤ 2 ^ 24) → (T (not b) → 2 ^ 24 < g) → r ≡ cond b g (2 ^ 24)
+    go true f h = under (f tt)
+    go false f h = over (h tt)
+
 held_le : (g : ℕ) → held g ≤ 2 ^ 24
 held_le g = go (leb g (2 ^ 24)) (leb→le g (2 ^ 24))
   where
@@ -29,10 +37,22 @@ pub guess_le : (b : ℕ) → guess b ≤ 2 ^ 24
 unfolding guess
 guess_le b = held_le (less (to_bits binary32 (estimate b)) (exponent b))
 
+-- the square of a guess is far below 2 ^ 64
+pub square_le : (q : ℕ) → q ≤ 2 ^ 24 → q * q ≤ 2 ^ 48
+square_le q h = le_trans (sq_mono h) (le_of_eq refl)
+
 -- ---- the correction of q towards the root of m
+-- downwards, q is above 0
+pub room_below : (m q : ℕ) → 0 < m → m + q ≤ q * q → 0 < q
+room_below m zero M h = absurd (omega (arith, M, h))
+room_below m (suc p) M h = omega arith
+
 -- upwards, q stays at most 2 ^ 24, and one more is still not too large
 pub room_above : (m q : ℕ) → m < 2 ^ 48 → q * q + q ≤ m → q < 2 ^ 24
 room_above m q M h = sq_lt q (2 ^ 24) (omega (arith, M, h))
+
+pub rises : (m q : ℕ) → q * q + q < m → (q + 1) * (q + 1) < m + (q + 1)
+rises m q h = let e = next_square q in subst (λ (z : ℕ). z * z < m + z) (sym (add-one q)) (omega (arith, h))
 
 pub stepped_le : (m g : ℕ) → m < 2 ^ 48 → g ≤ 2 ^ 24 → stepped m g ≤ 2 ^ 24
 stepped_le m g M G = go (ltb (g * g + g) m) (leb (m + g) (g * g)) (ltb→lt (g * g + g) m)
@@ -41,6 +61,28 @@ stepped_le m g M G = go (ltb (g * g + g) m) (leb (m + g) (g * g)) (ltb→lt (g *
     go true b f = let h = room_above m g M (le_of_lt (f tt)) in omega arith
     go false true f = omega arith
     go false false f = G
+
+-- a step without a branch: the tests are added and taken away as numbers
+pub step_is : (m g : ℕ) → (g + bool_byte (ltb (g * g + g) m)) - bool_byte (leb (m + g) (g * g)) ≡ stepped m g
+step_is m g = go (ltb (g * g + g) m) (leb (m + g) (g * g)) (ltb→lt (g * g + g) m) (leb→le (m + g) (g * g))
+  where
+    go : (a b : Bool) → (T a → g * g + g < m) → (T b → m + g ≤ g * g) → (g + bool_byte a) - bool_byte b ≡ cond a (g + 1) (cond b (g - 1) g)
+    go true true f h = absurd (omega (arith, f tt, h tt))
+    go true false f h = omega arith
+    go false true f h = omega arith
+    go false false f h = omega arith
+
+-- what is added is at most one, and what is taken away is no more than there is
+pub byte_le : (b : Bool) → bool_byte b ≤ 1
+byte_le true = omega arith
+byte_le false = omega arith
+
+pub step_room : (m g : ℕ) → 0 < m → bool_byte (leb (m + g) (g * g)) ≤ g + bool_byte (ltb (g * g + g) m)
+step_room m g M = go (leb (m + g) (g * g)) (leb→le (m + g) (g * g))
+  where
+    go : (b : Bool) → (T b → m + g ≤ g * g) → bool_byte b ≤ g + bool_byte (ltb (g * g + g) m)
+    go true h = let p = room_below m g M (h tt) in omega arith
+    go false h = omega arith
 
 -- ---- the root of 4 * n, cut to a whole number, is twice the nearest or one less
 pub nearest_half : (n q N : ℕ) → IsNearest n q → IsRoot (4 * n) N → (N + 1) / 2 ≡ q
